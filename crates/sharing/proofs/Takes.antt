@@ -1,7 +1,7 @@
 -- A loop in which one party after the other takes its share. Assumes nothing.
 use Prim.Native.Nat.{ℕ, zero, suc, _+_, _≤_, _<_}
 use mathlib.Core.Path.{_≡_, refl, sym, ap, subst, _∙_}
-use mathlib.Core.List.{List, [], _∷_, _++_, map}
+use mathlib.Core.List.{List, [], _∷_, map}
 use native.Mathlib.Omega.{arith}
 use native.Mathlib.Numerals.{add-one}
 use borrow.Author.Differences.{ints}
@@ -13,7 +13,7 @@ use mir.Val.{SFits}
 use Rattle.std.proofs.shelf.Signed.{by-ltZ}
 use Rattle.std.proofs.shelf.Lists.{length-map, getD-map, take-more}
 use Rattle.sharing.specs.Shares.{sumZ, portion, shares, eachTakes, leftover}
-use Rattle.sharing.specs.Fair.{bears, bearing, Fair, Shared}
+use Rattle.sharing.specs.Fair.{bearing, Fair, Shared}
 use Rattle.sharing.proofs.Fairness.{length-shares, getD-shares, shares-fair}
 use Rattle.sharing.proofs.Sums.{sumZ-push}
 

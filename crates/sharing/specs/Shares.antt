@@ -1,5 +1,4 @@
 -- How an amount of cents is shared over parties by their weights. Assumes nothing.
-use Prim.Native.Nat.{ℕ}
 use mathlib.Core.List.{List, [], _∷_, map}
 use lib.IntN.{ℤ, pos, _+ℤ_, _-ℤ_, _*ℤ_}
 use Rattle.sharing.specs.Floor.{floorDiv}

@@ -1,4 +1,3 @@
-ghost use mathlib.Core.Path.{_≡_};
 ghost use lib.IntN.{pos};
 ghost use Rattle.sharing_tests.specs.Kinds.{charged, credited};
 use crate::kinds::Load;

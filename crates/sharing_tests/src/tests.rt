@@ -37,14 +37,20 @@ fn divisors_not_above_nil() -> Result<(), Fail> {
 fn three_alike() -> Result<(), Fail> {
     let mut loads = [load(1), load(1), load(1)];
     check_eq(share(100, &mut loads), Some(1))?;
-    check_eq([loads[0].charge, loads[1].charge, loads[2].charge], [33, 33, 33])
+    check_eq(
+        [loads[0].charge, loads[1].charge, loads[2].charge],
+        [33, 33, 33],
+    )
 }
 
 #[test]
 fn three_alike_below_nil() -> Result<(), Fail> {
     let mut loads = [load(1), load(1), load(1)];
     check_eq(share(-100, &mut loads), Some(2))?;
-    check_eq([loads[0].charge, loads[1].charge, loads[2].charge], [-34, -34, -34])
+    check_eq(
+        [loads[0].charge, loads[1].charge, loads[2].charge],
+        [-34, -34, -34],
+    )
 }
 
 #[test]
@@ -106,5 +112,8 @@ fn recipients_by_weight() -> Result<(), Fail> {
     ];
     check_eq(share(27000001, &mut recipients), Some(1))?;
     let [first, second, third] = recipients;
-    check_eq([first.credit, second.credit, third.credit], [20250000, 0, 6750000])
+    check_eq(
+        [first.credit, second.credit, third.credit],
+        [20250000, 0, 6750000],
+    )
 }

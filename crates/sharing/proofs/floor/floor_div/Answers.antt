@@ -10,5 +10,5 @@ pub returns : need.returns
 returns c =
     let a = c .args .a in
     let b = c .args .b in
-    let is : toZ w128 (ofZ w128 (c .div-euclid .result)) ≡ floorDiv a b = search needs in
+    let is : toZ w128 (ofZ w128 (c .quotient .result)) ≡ floorDiv a b = search needs in
     record { value = is; rounded = λ h. subst (Floored a b) (sym is) (floored a b h) }

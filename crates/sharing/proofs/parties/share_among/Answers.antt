@@ -1,15 +1,12 @@
-use Prim.Native.Nat.{_≤_, _<_, _+_, _*_, _^_}
 use mathlib.Core.Path.{_≡_, sym, ap, subst, _∙_}
 use mathlib.Core.List.{map}
 use native.Mathlib.Omega.{arith}
-use borrow.Author.Needs.{needs}
 use borrow.Author.Differences.{ints}
-use lib.IntN.{natAbs, _-ℤ_}
 use lib.ListN.{getD, set}
 use mir.Syntax.{w64}
 use mir.Val.{toZ, ofZ, SFits}
 use Rattle.std.proofs.shelf.Signed.{toZ-ofZ}
-use Rattle.sharing.specs.Shares.{sumZ, portion, shares, eachTakes}
+use Rattle.sharing.specs.Shares.{sumZ, portion}
 use Rattle.sharing.specs.Fair.{Shared}
 use Rattle.sharing.proofs.Takes.{turn, ends, left-fits}
 use Rattle.std.proofs.shelf.Lists.{length-map}

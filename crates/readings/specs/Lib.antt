@@ -1,0 +1,9 @@
+pub mod Table
+pub mod Rules
+pub mod Sources
+pub mod AtMost
+pub mod Ranges
+pub mod PublishedLaws
+pub mod HourlyLaws
+pub mod EitherSource
+pub mod Theorems
