@@ -7,3 +7,5 @@ pub use hour::Hour;
 pub use month::hours_above_strike;
 pub use month::month_rent;
 pub use refusal::RentRefusal;
+pub use refusal::RentRefusalDebug;
+pub use refusal::RentRefusalPartialEq;

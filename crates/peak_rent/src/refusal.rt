@@ -2,7 +2,7 @@ ghost use mathlib.Core.Path.{_≡_};
 ghost use Rattle.peak_rent.specs.Refusals.{number-of};
 
 // Why a month's rent is refused.
-#[derive(Clone, Copy, PartialEq, Eq, Debug)]
+#[derive(Clone, Copy, PartialEq, Debug)]
 pub enum RentRefusal {
     // the peak is outside 1 to 100,000 megawatts
     PeakOutOfRange,

@@ -3,7 +3,7 @@ ghost use Rattle.rent_input.specs.declared.faults.Failure.the-variants.{NoMemo
 use std::alloc::Refused;
 
 // What is wrong with a field, by its place in the line, counted from 1.
-#[derive(Clone, Copy, PartialEq, Eq, Debug)]
+#[derive(Clone, Copy)]
 pub enum Wrong {
     // the field is missing or empty
     Missing(usize),
@@ -14,14 +14,14 @@ pub enum Wrong {
 }
 
 // What is wrong, and on which line, counted from 1.
-#[derive(Clone, Copy, PartialEq, Eq, Debug)]
+#[derive(Clone, Copy)]
 pub struct Fault {
     pub line: usize,
     pub wrong: Wrong,
 }
 
 // Why an input was not read.
-#[derive(Clone, Copy, PartialEq, Eq, Debug)]
+#[derive(Clone, Copy)]
 pub enum Failure {
     Unreadable(Fault),
     NoMemory,

@@ -7,7 +7,7 @@ use peak_rent::hours_above_strike;
 use peak_rent::month_rent;
 
 // What is reported of a month: its hours, those with a price above the strike, and its rent.
-#[derive(Clone, Copy, PartialEq, Eq, Debug)]
+#[derive(Clone, Copy)]
 pub struct Report {
     pub hours: usize,
     pub above: usize,

@@ -1,0 +1,7 @@
+// The sources of readings tried on examples and at their limits.
+#[cfg(test)]
+mod hourly;
+#[cfg(test)]
+mod published;
+#[cfg(test)]
+mod sources;
