@@ -16,16 +16,8 @@ use crate::rules::in_range;
 // In order of resource, then hour, made for events of `hours` hours.
 #[derive(Clone, Copy)]
 pub struct Hourly<'a> {
-    readings: &'a [u64],
-    hours: u64,
-}
-
-impl<'a> Hourly<'a> {
-    pub fn new(readings: &'a [u64], hours: u64) -> Hourly<'a>
-        ensures { λ r. ⌜ now (r .readings) ≡ now (readings .entry) ⌝ ∗ ⌜ r .hours ≡ hours ⌝ }
-    {
-        Hourly { readings, hours }
-    }
+    pub readings: &'a [u64],
+    pub hours: u64,
 }
 
 // The readings of one resource, where it is covered.

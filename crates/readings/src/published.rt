@@ -14,15 +14,7 @@ use crate::rules::in_range;
 
 #[derive(Clone, Copy)]
 pub struct Published<'a> {
-    scores: &'a [u64],
-}
-
-impl<'a> Published<'a> {
-    pub fn new(scores: &'a [u64]) -> Published<'a>
-        ensures { λ r. ⌜ now (r .scores) ≡ now (scores .entry) ⌝ }
-    {
-        Published { scores }
-    }
+    pub scores: &'a [u64],
 }
 
 // The score of one resource, where it is covered.

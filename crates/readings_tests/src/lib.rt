@@ -1,5 +1,7 @@
 // The sources of readings tried on examples and at their limits.
 #[cfg(test)]
+mod asked;
+#[cfg(test)]
 mod hourly;
 #[cfg(test)]
 mod published;

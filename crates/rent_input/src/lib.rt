@@ -9,8 +9,6 @@ pub use faults::Failure;
 pub use faults::FailureFromRefused;
 pub use faults::Fault;
 pub use faults::Wrong;
-pub use line::hour_at;
-pub use line::peak_at;
 pub use messages::FaultDisplay;
 pub use messages::ReportDisplay;
 pub use messages::WrongDisplay;

@@ -6,67 +6,73 @@ use text::number;
 use text::signed;
 
 #[test]
-fn plain_numbers() -> Result<(), Fail> {
-    check_eq(number(b"0"), Some(0))?;
-    check_eq(number(b"7"), Some(7))?;
-    check_eq(number(b"26000"), Some(26000))?;
-    check_eq(number(b"99999999999"), Some(99999999999))
-}
-
-#[test]
-fn malformed_numbers() -> Result<(), Fail> {
-    check_eq(number(b""), None)?;
-    check_eq(number(b"100000000000"), None)?;
-    check_eq(
-        [number(b"00"), number(b"01"), number(b"000000000001")],
-        [None, None, None],
-    )?;
-    check_eq(
-        [number(b"+1"), number(b"-1"), number(b"1 ")],
-        [None, None, None],
-    )?;
-    check_eq(
-        [number(b"1e3"), number(b"/"), number(b":")],
-        [None, None, None],
-    )?;
-    check_eq(
-        [number(b"\x00"), number(b"\xff1"), number(b"1\r")],
-        [None, None, None],
-    )
+fn numbers() -> Result<(), Fail> {
+    let fields: [(&[u8], u64); 4] = [
+        (b"0", 0),
+        (b"7", 7),
+        (b"26000", 26000),
+        (b"99999999999", 99999999999),
+    ];
+    for (field, n) in fields {
+        check_eq(number(field), Some(n))?;
+    }
+    Ok(())
 }
 
 #[test]
 fn signed_numbers() -> Result<(), Fail> {
-    check_eq(signed(b"0"), Some(0))?;
-    check_eq(signed(b"-1"), Some(-1))?;
-    check_eq(signed(b"-99999999999"), Some(-99999999999))?;
-    check_eq(
-        [signed(b"-0"), signed(b"-"), signed(b"--1")],
-        [None, None, None],
-    )?;
-    check_eq(
-        [signed(b"+1"), signed(b"-01"), signed(b"-100000000000")],
-        [None, None, None],
-    )?;
-    check_eq(
-        [signed(b""), signed(b"word"), signed(b"1-")],
-        [None, None, None],
-    )
+    let fields: [(&[u8], i64); 4] = [
+        (b"0", 0),
+        (b"-1", -1),
+        (b"26000", 26000),
+        (b"-99999999999", -99999999999),
+    ];
+    for (field, n) in fields {
+        check_eq(signed(field), Some(n))?;
+    }
+    Ok(())
+}
+
+#[test]
+fn malformed() -> Result<(), Fail> {
+    let fields: [&[u8]; 18] = [
+        b"",
+        b"100000000000",
+        b"-100000000000",
+        b"00",
+        b"01",
+        b"000000000001",
+        b"-0",
+        b"-01",
+        b"-",
+        b"--1",
+        b"+1",
+        b"1 ",
+        b"1e3",
+        b"/",
+        b":",
+        b"\x00",
+        b"\xff1",
+        b"1\r",
+    ];
+    for field in fields {
+        check_eq(number(field), None)?;
+        check_eq(signed(field), None)?;
+    }
+    check_eq(number(b"-1"), None)
 }
 
 #[test]
 fn lines_and_fields() -> Result<(), Fail> {
     let (line, rest) = cut_line(b"1 2\n3\n");
-    check_eq(line, b"1 2")?;
     check_eq(rest, b"3\n")?;
+    let (first, left) = first_field(line);
+    let (second, left) = next_field(left);
+    let (missing, left) = next_field(left);
+    check_eq(first, b"1")?;
+    check_eq(second, b"2")?;
+    check_eq(missing.len() + left.len(), 0)?;
     let (last, none) = cut_line(b"3");
     check_eq(last, b"3")?;
-    check_eq(none, b"")?;
-    let (first, left) = first_field(line);
-    check_eq(first, b"1")?;
-    let (second, left) = next_field(left);
-    check_eq(second, b"2")?;
-    let (missing, left) = next_field(left);
-    check_eq(missing, b"")?;
-    check_eq(left, b"")
+    check_eq(none.len(), 0)
 }

@@ -14,20 +14,38 @@ fn hour(price: i64, strike: i64, load: i64) -> Hour {
     }
 }
 
-#[test]
-fn one_hour() -> Result<(), Fail> {
-    check_eq(month_rent(25000, &[hour(30000, 20000, 20000)]), Ok(76000))?;
-    check_eq(month_rent(25000, &[hour(20000, 20000, 20000)]), Ok(0))?;
-    check_eq(month_rent(25000, &[hour(20001, 20000, 25000)]), Ok(9))?;
-    check_eq(month_rent(25000, &[hour(-30000, 20000, 20000)]), Ok(0))?;
-    check_eq(month_rent(25000, &[]), Ok(0))
+// Months of a single hour, each with its peak and its rent.
+fn rents(months: &[(u64, Hour, u64)]) -> Result<(), Fail> {
+    for (peak, hour, rent) in months {
+        check_eq(month_rent(*peak, &[*hour]), Ok(*rent))?;
+    }
+    Ok(())
+}
+
+// Hours, each with whether it is refused, in a month after an hour of nothing.
+fn refusals(hours: &[(Hour, bool)]) -> Result<(), Fail> {
+    for (bad, refused) in hours {
+        let answer = month_rent(1, &[hour(0, 0, 0), *bad]);
+        check_eq(answer == Err(RentRefusal::HourOutOfRange), *refused)?;
+    }
+    Ok(())
 }
 
 #[test]
-fn the_load_counts_up_to_the_peak() -> Result<(), Fail> {
-    check_eq(month_rent(25000, &[hour(30000, 20000, 25000)]), Ok(95000))?;
-    check_eq(month_rent(25000, &[hour(30000, 20000, 99999)]), Ok(95000))?;
-    check_eq(month_rent(25000, &[hour(30000, 20000, 0)]), Ok(0))
+fn months_of_one_hour() -> Result<(), Fail> {
+    let months = [
+        (25000, hour(30000, 20000, 20000), 76000),
+        (25000, hour(20000, 20000, 20000), 0),
+        (25000, hour(20001, 20000, 25000), 9),
+        (25000, hour(-30000, 20000, 20000), 0),
+        (25000, hour(30000, 20000, 25000), 95000),
+        (25000, hour(30000, 20000, 99999), 95000),
+        (25000, hour(30000, 20000, 0), 0),
+        (1, hour(3, 1, 1), 19),
+        (100000, hour(1000000, 0, 100000), 9500000),
+    ];
+    rents(&months)?;
+    check_eq(month_rent(25000, &[]), Ok(0))
 }
 
 #[test]
@@ -39,15 +57,6 @@ fn each_hour_is_divided_by_itself() -> Result<(), Fail> {
 }
 
 #[test]
-fn the_peak_at_its_limits() -> Result<(), Fail> {
-    check_eq(month_rent(0, &[]), Err(RentRefusal::PeakOutOfRange))?;
-    check_eq(month_rent(1, &[hour(3, 1, 1)]), Ok(19))?;
-    check_eq(month_rent(100000, &[hour(1000000, 0, 100000)]), Ok(9500000))?;
-    check_eq(month_rent(100001, &[]), Err(RentRefusal::PeakOutOfRange))?;
-    check_eq(month_rent(u64::MAX, &[]), Err(RentRefusal::PeakOutOfRange))
-}
-
-#[test]
 fn so_many_hours() -> Result<(), Fail> {
     let most = [hour(1000000, 0, 100000); 744];
     check_eq(month_rent(1, &most), Ok(7068000000))?;
@@ -55,34 +64,33 @@ fn so_many_hours() -> Result<(), Fail> {
     check_eq(month_rent(1, &many), Err(RentRefusal::TooManyHours))
 }
 
-fn refused(price: i64, strike: i64, load: i64) -> bool {
-    let hours = [hour(0, 0, 0), hour(price, strike, load)];
-    month_rent(1, &hours) == Err(RentRefusal::HourOutOfRange)
+#[test]
+fn the_peak_at_its_limits() -> Result<(), Fail> {
+    for peak in [0, 100001, u64::MAX] {
+        check_eq(month_rent(peak, &[]), Err(RentRefusal::PeakOutOfRange))?;
+    }
+    for peak in [1, 100000] {
+        check_eq(month_rent(peak, &[]), Ok(0))?;
+    }
+    Ok(())
 }
 
 #[test]
 fn figures_at_their_limits() -> Result<(), Fail> {
-    check_eq(
-        [refused(1000000, 0, 0), refused(1000001, 0, 0)],
-        [false, true],
-    )?;
-    check_eq(
-        [refused(-1000000, 0, 0), refused(-1000001, 0, 0)],
-        [false, true],
-    )?;
-    check_eq([refused(0, 0, 0), refused(0, -1, 0)], [false, true])?;
-    check_eq(
-        [refused(0, 1000000, 0), refused(0, 1000001, 0)],
-        [false, true],
-    )?;
-    check_eq(
-        [refused(0, 0, 100000), refused(0, 0, 100001)],
-        [false, true],
-    )?;
-    check_eq(
-        [refused(0, 0, -1), refused(i64::MIN, i64::MAX, i64::MIN)],
-        [true, true],
-    )
+    let hours = [
+        (hour(1000000, 0, 0), false),
+        (hour(1000001, 0, 0), true),
+        (hour(-1000000, 0, 0), false),
+        (hour(-1000001, 0, 0), true),
+        (hour(0, -1, 0), true),
+        (hour(0, 1000000, 0), false),
+        (hour(0, 1000001, 0), true),
+        (hour(0, 0, -1), true),
+        (hour(0, 0, 100000), false),
+        (hour(0, 0, 100001), true),
+        (hour(i64::MIN, i64::MAX, i64::MIN), true),
+    ];
+    refusals(&hours)
 }
 
 #[test]
@@ -104,13 +112,15 @@ fn hours_above() -> Result<(), Fail> {
         hour(4, 5, 1),
         hour(i64::MAX, i64::MIN, 0),
     ];
-    check_eq(hours_above_strike(&hours), 2)?;
-    check_eq(hours_above_strike(&[]), 0)
+    check_eq(hours_above_strike(&hours), 2)
 }
 
 #[test]
 fn refusals_have_their_numbers() -> Result<(), Fail> {
-    check_eq(RentRefusal::PeakOutOfRange.number(), 2)?;
-    check_eq(RentRefusal::TooManyHours.number(), 28)?;
-    check_eq(RentRefusal::HourOutOfRange.number(), 29)
+    let numbers = [
+        RentRefusal::PeakOutOfRange.number(),
+        RentRefusal::TooManyHours.number(),
+        RentRefusal::HourOutOfRange.number(),
+    ];
+    check_eq(numbers, [2, 28, 29])
 }
