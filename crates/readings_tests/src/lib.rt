@@ -2,8 +2,4 @@
 #[cfg(test)]
 mod asked;
 #[cfg(test)]
-mod hourly;
-#[cfg(test)]
-mod published;
-#[cfg(test)]
-mod sources;
+mod tests;

@@ -30,8 +30,8 @@ fn says(heap: Global, inputs: &[(&[u8], &str)]) -> Result<(), Fail> {
 }
 
 #[test]
-fn readable(rt: LibcRuntime) -> Result<(), Fail> {
-    let inputs: [(&[u8], &str); 8] = [
+fn inputs(rt: LibcRuntime) -> Result<(), Fail> {
+    let inputs: [(&[u8], &str); 21] = [
         (
             b"25000\n30000 20000 20000\n20000 20000 20000\n",
             "hours 2\nabove 1\nrent 76000",
@@ -43,13 +43,6 @@ fn readable(rt: LibcRuntime) -> Result<(), Fail> {
         (b"99999999999\n", "refused 2"),
         (b"1\n0 0 0\n0 -1 0\n", "refused 29"),
         (b"1\n99999999999 0 0\n", "refused 29"),
-    ];
-    says(rt.alloc(), &inputs)
-}
-
-#[test]
-fn unreadable(rt: LibcRuntime) -> Result<(), Fail> {
-    let inputs: [(&[u8], &str); 13] = [
         (
             b"25000\nhot 20000 20000\n",
             "line 2: field 1 is not a number of at most eleven digits",
