@@ -1,5 +1,5 @@
 ghost use mathlib.Core.Path.{_≡_};
-ghost use Rattle.rent_input.specs.Lines.{figure, count, nothing-left, hour-of, peak-of};
+ghost use Rattle.rent_input.specs.Lines.{signed-at, number-at, nothing-left, hour-of, peak-of};
 use crate::faults::Wrong;
 use peak_rent::Hour;
 use text::first_field;
@@ -8,8 +8,8 @@ use text::number;
 use text::signed;
 
 // The signed number of a field at its place.
-fn figure_at(place: usize, field: &[u8]) -> Result<i64, Wrong>
-    ensures { λ r. ⌜ r ≡ figure place (now (field .entry)) ⌝ }
+fn signed_at(place: usize, field: &[u8]) -> Result<i64, Wrong>
+    ensures { λ r. ⌜ r ≡ signed-at place (now (field .entry)) ⌝ }
 {
     if field.is_empty() {
         return Err(Wrong::Missing(place));
@@ -21,8 +21,8 @@ fn figure_at(place: usize, field: &[u8]) -> Result<i64, Wrong>
 }
 
 // The number of a field that takes no minus.
-fn count_at(place: usize, field: &[u8]) -> Result<u64, Wrong>
-    ensures { λ r. ⌜ r ≡ count place (now (field .entry)) ⌝ }
+fn number_at(place: usize, field: &[u8]) -> Result<u64, Wrong>
+    ensures { λ r. ⌜ r ≡ number-at place (now (field .entry)) ⌝ }
 {
     if field.is_empty() {
         return Err(Wrong::Missing(place));
@@ -49,11 +49,11 @@ pub fn hour_at(line: &[u8]) -> Result<Hour, Wrong>
     ensures { λ r. ⌜ r ≡ hour-of (now (line .entry)) ⌝ }
 {
     let (first, left) = first_field(line);
-    let price = figure_at(1, first)?;
+    let price = signed_at(1, first)?;
     let (second, left) = next_field(left);
-    let strike = figure_at(2, second)?;
+    let strike = signed_at(2, second)?;
     let (third, left) = next_field(left);
-    let load = figure_at(3, third)?;
+    let load = signed_at(3, third)?;
     end_at(4, left)?;
     Ok(Hour {
         price,
@@ -67,7 +67,7 @@ pub fn peak_at(line: &[u8]) -> Result<u64, Wrong>
     ensures { λ r. ⌜ r ≡ peak-of (now (line .entry)) ⌝ }
 {
     let (first, left) = first_field(line);
-    let peak = count_at(1, first)?;
+    let peak = number_at(1, first)?;
     end_at(2, left)?;
     Ok(peak)
 }
