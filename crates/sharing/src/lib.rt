@@ -1,4 +1,6 @@
 // The sharing of an amount of cents over parties by their weights, each share rounded down.
+#![tactic(auto)]
+
 mod floor;
 mod parties;
 

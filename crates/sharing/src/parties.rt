@@ -32,7 +32,7 @@ const MOST_PARTIES: usize = 64;
 
 fn total_weight<P: Party>(parties: &[P]) -> i64
     requires { length parties.now ≤ 64 }
-    ensures sum { result ≡ sum_z (map weighs parties.now) }
+    ensures sum { result ≡ sum_z (map P.weighs parties.now) }
     ensures low { neg_ℤ (pos (2 ^ 40)) ≤ℤ result }
     ensures high { result ≤ℤ pos (2 ^ 40) }
 {
@@ -53,8 +53,8 @@ fn portion_of(amount: i64, total: i64, weight: i32) -> i128
 
 // A party takes its portion of the amount, which is the answer.
 fn hand_out<P: Party>(party: &mut P, amount: i64, total: i64) -> i128
-    ensures after { party.new ≡ given party.old result }
-    ensures value { result ≡ portion amount total (weighs party.old) }
+    ensures after { party.new ≡ P.given party.old result }
+    ensures value { result ≡ portion amount total (P.weighs party.old) }
     ensures low { neg_ℤ (pos (2 ^ 94)) ≤ℤ result }
     ensures high { result ≤ℤ pos (2 ^ 94) }
 {
@@ -66,7 +66,7 @@ fn hand_out<P: Party>(party: &mut P, amount: i64, total: i64) -> i128
 // Shares the amount over so few parties that no sum overflows, and answers what is left.
 fn share_among<P: Party>(amount: i64, parties: &mut [P]) -> i64
     requires { length parties.old ≤ 64 }
-    ensures { Shared weighs took given amount parties.old parties.new result }
+    ensures { Shared P.weighs P.took P.given amount parties.old parties.new result }
 {
     let total = total_weight(parties);
     let mut left = amount as i128;
@@ -80,7 +80,7 @@ fn share_among<P: Party>(amount: i64, parties: &mut [P]) -> i64
 // More than 64 parties are turned away with nothing shared.
 pub fn share<P: Party>(amount: i64, parties: &mut [P]) -> Option<i64>
     ensures few { is_some result ≡ nat_le (length parties.old) 64 }
-    ensures shared { MatchOption result (parties.new ≡ parties.old) (λ left. Shared weighs took given amount parties.old parties.new left) }
+    ensures shared { MatchOption result (parties.new ≡ parties.old) (λ left. Shared P.weighs P.took P.given amount parties.old parties.new left) }
 {
     if parties.len() > MOST_PARTIES {
         return None;

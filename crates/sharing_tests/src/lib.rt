@@ -1,4 +1,6 @@
 // Two kinds of party as examples, and the sharing tried on them.
+#![tactic(auto)]
+
 mod kinds;
 mod parties;
 #[cfg(test)]

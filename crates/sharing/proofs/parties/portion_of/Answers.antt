@@ -19,6 +19,6 @@ returns c =
     let gt : SFits w128 t = omega (arith, ints) in
     let gw : SFits w128 w = omega (arith, ints) in
     let gm : SFits w128 (a *ℤ w) = omega (arith, ints) in
-    let e : c.floor-div.result ≡ portion a t w = grind (arith, to_z-of_z) in
+    let e : c.floor_div.result ≡ portion a t w = grind (arith, to_z-of_z) in
     let k : nat_abs (portion a t w) ≤ 2 ^ 94 = floor_within (2 ^ 94) (a *ℤ w) t m in
     record { value = omega (arith, ints); low = omega (arith, ints); high = omega (arith, ints) }

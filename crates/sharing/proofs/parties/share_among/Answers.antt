@@ -16,15 +16,15 @@ loop-p-preserved g c =
     let qs = c.loop-p.parties in
     let i = c.loop-p.p-index in
     let x = c.p-item.result in
-    let part = c.hand-out-left.result in
-    let ft : SFits w64 c.total-weight-total.result = record { sfits = c.total-weight-total.type-inv } in
-    let total : to_z w64 (of_z w64 c.total-weight-total.result) ≡ sum_z (map w ps) = to_z-of_z w64 _ ft ∙ c.total-weight-total.ensures.sum in
-    let value : part ≡ portion a (to_z w64 (of_z w64 c.total-weight-total.result)) (w (get_or qs i x)) = c.hand-out-left.ensures.value in
+    let part = c.hand_out-left.result in
+    let ft : SFits w64 c.total_weight-total.result = omega (arith, ints) in
+    let total : to_z w64 (of_z w64 c.total_weight-total.result) ≡ sum_z (map w ps) = to_z-of_z w64 _ ft ∙ c.total_weight-total.ensures.sum in
+    let value : part ≡ portion a (to_z w64 (of_z w64 c.total_weight-total.result)) (w (get_or qs i x)) = c.hand_out-left.ensures.value in
     let is : part ≡ portion a (sum_z (map w ps)) (w x) =
     value ∙ ap (λ t. portion a t (w (get_or qs i x))) total ∙ ap (λ y. portion a (sum_z (map w ps)) (w y)) (sym c.p-item.is) in
     let t = turn give w a ps qs i x part c.loop-p.left
     c.loop-p-test.true c.loop-p.invariant.1 (sym c.loop-p.left-is ∙ c.loop-p.invariant.2) c.p-item.is is in
-    let took : c.hand-out-left.new.party ≡ give x part = cc in
+    let took : c.hand_out-left.new.party ≡ give x part = cc in
     (omega arith, ap (set qs i) took ∙ t.0, omega (arith, ints, t.1), omega (arith, ints))
 
 end : (g : _) (c : goal.After-loop-p g)
@@ -38,8 +38,8 @@ fits : (g : _) (c : goal.After-loop-p g) → SFits w64 c.loop-p.left
 fits g c =
     left_fits _ _ _ _ (end g c).fair (omega (arith, length-map c.args.parties.now g.P.Party.weighs)) c.ranges.amount
 
-pub overflow-cast-result : goal.overflow-cast-result
-overflow-cast-result g c = omega (arith, ints, fits g c)
+pub overflow_cast-result : goal.overflow_cast-result
+overflow_cast-result g c = omega (arith, ints, fits g c)
 
 pub returns : goal.returns
 returns g c =
