@@ -1,7 +1,7 @@
 -- What `at_most` tells of a list: the steps of a loop over it, and its elements. Assumes nothing.
 use Rattle.std.specs.Prelude.{◌≡◌, ℕ, ◌+◌, ◌<◌, ◌≤◌, true, false, ◌&&◌, leb, List, length, drop, Decides, nat_le, slice_index, refl}
 use Rattle.std.proofs.Common.{sym, ◌∙◌}
-use Rattle.std.specs.List.{AllByRecursion as All}
+use Rattle.std.specs.List.{AllByRecursion}
 use Rattle.std.proofs.lemmas.List.{at_drop_more, at_drop_all}
 use Rattle.std.proofs.ByRecursion.{All-get_or, Decides-by_and}
 use Rattle.std.proofs.lemmas.Bool.{le-leb, lt-leb, leb-true}
@@ -22,7 +22,7 @@ at_most_stops m xs i within high left =
 pub at_most_all : (m : ℕ) (xs : List ℕ) (i : ℕ) → length xs ≤ i → at_most m (drop i xs) ≡ at_most m xs → at_most m xs ≡ true
 at_most_all m xs i past left = sym left ∙ at_drop_all (at_most m) xs i past
 
-pub decides_at_most : (m : ℕ) (xs : List ℕ) → Decides (at_most m xs) (All (λ x. x ≤ m) xs)
+pub decides_at_most : (m : ℕ) (xs : List ℕ) → Decides (at_most m xs) (AllByRecursion (λ x. x ≤ m) xs)
 decides_at_most m xs = Decides-by_and (λ x. leb x m) (λ x. x ≤ m) (at_most m) (λ x. (leb-true x m, le-leb x m)) refl (λ _ _. refl) xs
 
 pub at_most_get_or : (m : ℕ) (xs : List ℕ) (i : ℕ) → at_most m xs ≡ true → i < length xs → slice_index xs i ≤ m

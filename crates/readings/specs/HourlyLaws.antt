@@ -2,7 +2,7 @@
 use Rattle.std.specs.Prelude.{◌≡◌, ℕ, ◌+◌, ◌-◌, ◌*◌, ◌≤◌, min, true, false, List, length, take, drop, sum_by, sum, refl}
 use Rattle.std.proofs.Common.{sym, ap, ◌∙◌, arith, mul-le-mul, mul-le-mul_right, add-mul, mul_comm}
 use Rattle.std.proofs.Math.Nat.{min-le_right}
-use Rattle.std.specs.List.{AllByRecursion as All}
+use Rattle.std.specs.List.{AllByRecursion}
 use Rattle.std.proofs.lemmas.List.{length-take, drop-take}
 use Rattle.std.proofs.ByRecursion.{All-drop, All-from_get_or, sum_by_le}
 use Rattle.std.proofs.lemmas.Bool.{and_parts}
@@ -16,7 +16,7 @@ use Rattle.readings.specs.Ranges.{in_range_tells}
 pub up_to_own : (r h : ℕ) → 1 ≤ r → (r - 1) * h + h ≡ r * h
 up_to_own r h low = sym (ap (λ k. k * h) (omega arith) ∙ add-mul (r - 1) 1 h ∙ omega arith)
 
-pub hours_all : (xs : List ℕ) (r h m : ℕ) → 1 ≤ r → first_at_most xs (r * h) m ≡ true → All (λ x. x ≤ m) (hours_of xs r h)
+pub hours_all : (xs : List ℕ) (r h m : ℕ) → 1 ≤ r → first_at_most xs (r * h) m ≡ true → AllByRecursion (λ x. x ≤ m) (hours_of xs r h)
 hours_all xs r h m low e =
     let firsts = (decides_at_most m (take (r * h) xs)).0 (and_parts _ _ e).1 in
     let own : drop ((r - 1) * h) (take (r * h) xs) ≡ hours_of xs r h =
@@ -26,7 +26,7 @@ hours_all xs r h m low e =
 pub hours_length : (xs : List ℕ) (r h : ℕ) → length (hours_of xs r h) ≤ h
 hours_length xs r h = simp length-take (omega arith)
 
-hours_sum : (f : ℕ → ℕ) (xs : List ℕ) (r h m : ℕ) → All (λ x. f x ≤ m) (hours_of xs r h) → sum_by f (hours_of xs r h) ≤ m * h
+hours_sum : (f : ℕ → ℕ) (xs : List ℕ) (r h m : ℕ) → AllByRecursion (λ x. f x ≤ m) (hours_of xs r h) → sum_by f (hours_of xs r h) ≤ m * h
 hours_sum f xs r h m low =
     omega (arith, sum_by_le f m (hours_of xs r h) low, mul-le-mul_right m (hours_length xs r h), mul_comm h m)
 

@@ -1,4 +1,6 @@
 // The readings of an event: what each resource kept of what was due, and its weight in the credits.
+#![tactic(auto)]
+
 mod hourly;
 mod published;
 mod rules;
