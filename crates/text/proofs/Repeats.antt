@@ -1,7 +1,7 @@
 -- The laws of k values of one format. Assumes nothing.
 use Rattle.std.proofs.Common.{◌≡◌, ℕ, zero, suc, ◌+◌, ◌-◌, ◌<◌, ◌≤◌, List, [], ◌∷◌, ◌++◌, length, take, Ok, Err, Result, sym, refl, ap, ◌∙◌, subst, append_assoc, append-nil, arith}
 use Rattle.text.specs.declared.faults.FieldFault.{FieldFault}
-use Rattle.std.specs.List.{flat_map, AllByRecursion as All}
+use Rattle.std.specs.List.{flat_map, AllByRecursion}
 use Rattle.text.specs.declared.faults.Spot.{Spot}
 use Rattle.std.proofs.lemmas.List.{take_all}
 use Rattle.text.specs.Formats.{then, Format, many, many_pieces, many_left, many_values, follows, number, numbers_of, or_fault, nothing}
@@ -12,7 +12,7 @@ module _ {A P : Type 0} (f : Format A P) (l : Laws f) (edge : (x : A) (r : List 
   texts_edge [] r e = e
   texts_edge (x ∷ xs) r e = subst (Edge 32) (sym (append_assoc (f.text x) (flat_map f.text xs) r)) (edge x (flat_map f.text xs ++ r))
 
-  many_forth : (xs : List A) (r : List ℕ) → All f.good xs → Edge 32 r → (many_left f (length xs) (flat_map f.text xs ++ r) ≡ r) × ((at : Spot) (p : ℕ) → many_values f at p (many_pieces f (length xs) (flat_map f.text xs ++ r)) ≡ Ok xs)
+  many_forth : (xs : List A) (r : List ℕ) → AllByRecursion f.good xs → Edge 32 r → (many_left f (length xs) (flat_map f.text xs ++ r) ≡ r) × ((at : Spot) (p : ℕ) → many_values f at p (many_pieces f (length xs) (flat_map f.text xs ++ r)) ≡ Ok xs)
   unfolding many_pieces many_left many_values
   many_forth [] r g e = (refl, λ at p. refl)
   many_forth (x ∷ xs) r g e =
@@ -26,11 +26,11 @@ module _ {A P : Type 0} (f : Format A P) (l : Laws f) (edge : (x : A) (r : List 
             ∙ ap (λ v. then v (λ ys. Ok (x ∷ ys))) (b.1 at (p + f.width)),
       )
 
-  many_back : (k : ℕ) (at : Spot) (p : ℕ) (s : List ℕ) (xs : List A) → many_values f at p (many_pieces f k s) ≡ Ok xs → (s ≡ flat_map f.text xs ++ many_left f k s) × ((length xs ≡ k) × All f.good xs)
+  many_back : (k : ℕ) (at : Spot) (p : ℕ) (s : List ℕ) (xs : List A) → many_values f at p (many_pieces f k s) ≡ Ok xs → (s ≡ flat_map f.text xs ++ many_left f k s) × ((length xs ≡ k) × AllByRecursion f.good xs)
   unfolding many_pieces many_left many_values
   many_back zero at p s xs h =
       let same : [] ≡ xs = cc in
-      subst (λ ys. (s ≡ flat_map f.text ys ++ s) × ((length ys ≡ 0) × All f.good ys)) same (refl, (refl, tt))
+      subst (λ ys. (s ≡ flat_map f.text ys ++ s) × ((length ys ≡ 0) × AllByRecursion f.good ys)) same (refl, (refl, tt))
   many_back (suc k) at p s xs h =
       let u = then_ok (f.value at p (f.piece s)) _ xs h in
       let v = then_ok (many_values f at (p + f.width) (many_pieces f k (f.left s))) _ xs u.2 in
@@ -38,9 +38,9 @@ module _ {A P : Type 0} (f : Format A P) (l : Laws f) (edge : (x : A) (r : List 
       let b = many_back k at (p + f.width) (f.left s) v.0 v.1 in
       let same : u.0 ∷ v.0 ≡ xs = cc v.2 in
       let whole : s ≡ (f.text u.0 ++ flat_map f.text v.0) ++ many_left f k (f.left s) = a.0 ∙ ap (λ t. f.text u.0 ++ t) b.0 ∙ sym (append_assoc (f.text u.0) (flat_map f.text v.0) (many_left f k (f.left s))) in
-      subst (λ ys. (s ≡ flat_map f.text ys ++ many_left f k (f.left s)) × ((length ys ≡ suc k) × All f.good ys)) same (whole, (ap suc b.1.0, (a.1, b.1.1)))
+      subst (λ ys. (s ≡ flat_map f.text ys ++ many_left f k (f.left s)) × ((length ys ≡ suc k) × AllByRecursion f.good ys)) same (whole, (ap suc b.1.0, (a.1, b.1.1)))
 
-  many_flat : (xs : List A) → All f.good xs → Free 10 (flat_map f.text xs)
+  many_flat : (xs : List A) → AllByRecursion f.good xs → Free 10 (flat_map f.text xs)
   many_flat [] g = tt
   many_flat (x ∷ xs) g = free_append 10 (f.text x) (flat_map f.text xs) (l.flat x g.0) (many_flat xs g.1)
 

@@ -1,6 +1,6 @@
 -- How a line is written and read: formats of one field, and of several after one another. Assumes nothing.
 use Rattle.std.specs.Prelude.{◌≡◌, ℕ, zero, suc, ◌+◌, ◌*◌, ◌^◌, ◌<◌, ◌≤◌, Bool, false, cond, ◌&&◌, List, [], ◌∷◌, ◌++◌, length, ℤ, Some, None, Ok, Err, decimal, Option, Result, ◌==◌, nat_le, unsigned_abs}
-use Rattle.std.specs.List.{flat_map, AllByRecursion as All}
+use Rattle.std.specs.List.{flat_map, AllByRecursion}
 use Rattle.std.specs.Fmt.{signed_decimal}
 use Rattle.text.specs.declared.faults.Spot.{Spot}
 use Rattle.text.specs.declared.faults.FieldFault.{FieldFault}
@@ -106,7 +106,7 @@ many_values f at p (q ∷ qs) = then (f.value at p q) (λ x. then (many_values f
 abbrev pub many : {A P : Type 0} → ℕ → Format A P → Format (List A) (List P)
 many k f = record {
   text = λ xs. flat_map f.text xs;
-  good = λ xs. (length xs ≡ k) × All f.good xs;
+  good = λ xs. (length xs ≡ k) × AllByRecursion f.good xs;
   piece = many_pieces f k;
   left = many_left f k;
   value = many_values f;

@@ -1,5 +1,7 @@
 // Texts of lines and fields: where a text is cut, what its fields say, how lines are read with the place of each field,
 // and writing.
+#![tactic(auto)]
+
 mod cuts;
 pub mod faults;
 mod numbers;

@@ -98,7 +98,7 @@ pub trait Text {
 
 // The length of a text; one that is too long to be counted gives the greatest number.
 pub fn text_len<T: Text>(x: &T) -> usize
-    ensures { result ≡ min (length (text x.now)) last_place }
+    ensures { result ≡ min (length (T.text x.now)) last_place }
 {
     x.put(&mut [], 0)
 }
@@ -111,7 +111,7 @@ fn is_short(out: &[u8], len: usize) -> bool
 
 // Writes a text at the front of the buffer and answers its length. A buffer that is too short stays as it was.
 pub fn write<T: Text, E: Drop>(x: &T, out: &mut [u8], short: E) -> Result<usize, E>
-    ensures { Wrote short (text x.now) out.old out.new result }
+    ensures { Wrote short (T.text x.now) out.old out.new result }
 {
     if is_short(out, text_len(x)) {
         return Err(short);

@@ -19,11 +19,11 @@ returns-then-b-lt48 c =
       few = tt;
     }
 
-pub overflow-mul-n : goal.overflow-mul-n
-overflow-mul-n c = omega (arith, digit_bound c.args.s.now _ _ c.loop-b-test.true c.requires c.loop-b.invariant)
+pub overflow_mul-n : goal.overflow_mul-n
+overflow_mul-n c = omega (arith, digit_bound c.args.s.now _ _ c.loop-b-test.true c.requires c.loop-b.invariant)
 
-pub overflow-add-n : goal.overflow-add-n
-overflow-add-n c = omega (arith, digit_bound c.args.s.now _ _ c.loop-b-test.true c.requires c.loop-b.invariant, c.from.ensures)
+pub overflow_add-n : goal.overflow_add-n
+overflow_add-n c = omega (arith, digit_bound c.args.s.now _ _ c.loop-b-test.true c.requires c.loop-b.invariant, c.from.ensures)
 
 pub loop-b-preserved : goal.loop-b-preserved
 loop-b-preserved c = digit_step c.args.s.now _ _ _ c.loop-b-test.true c.if-b-lt48.false c.if-b-gt57.false c.from.ensures c.loop-b.invariant

@@ -2,4 +2,4 @@ use Rattle.text.proofs.Pastes.{puts_then}
 use Rattle.text.proofs.writing.put_later.Goals as goal
 
 pub returns : goal.returns
-returns c = puts_then c.put-byte-gap.ensures c.put-number.ensures
+returns c = puts_then c.put_byte-gap.ensures c.put_number.ensures

@@ -7,4 +7,4 @@ use Rattle.text.proofs.writing.put_later_signed.Goals as goal
 pub returns : goal.returns
 returns c =
     puts_same (ap (λ (z : ℤ). 32 ∷ signed_decimal z) (to_z-of_z w64 c.args.n c.ranges.n))
-    (puts_then c.put-byte-gap.ensures c.put-signed.ensures)
+    (puts_then c.put_byte-gap.ensures c.put_signed.ensures)

@@ -18,13 +18,13 @@ loop-i-init c =
     let s = c.args.self.now in
     (refl, refl, sym (add-zero s.place), refl, ap (λ k. reads_on (follows number) 12 s.spot k s.bytes.now []) (add-zero s.place))
 
-pub returns-in-err-all : goal.returns-in-err-all
-returns-in-err-all c =
+pub returns-in_err-all : goal.returns-in_err-all
+returns-in_err-all c =
     let s = c.args.self.now in
     let inv = c.loop-i.invariant in
     let more : 0 < 12 - c.loop-i.i = omega arith in
-    let p = err_from_is_err_and c.from-residual.result c.from-residual.ensures.1 in
-    let value = value_at number.read _ _ _ s.spot _ (s.place + c.loop-i.i) _ c.split.ensures.first inv.1 inv.2 c.in-err-all.ensures in
+    let p = err_from_is_err_and c.from_residual.result c.from_residual.ensures.1 in
+    let value = value_at number.read _ _ _ s.spot _ (s.place + c.loop-i.i) _ c.split.ensures.first inv.1 inv.2 c.in_err-all.ensures in
     let all = sym (on_all (follows number) 12 s.spot s.place s.bytes.now) ∙ sym inv.4 ∙ on_fault (follows number) _ _ _ _ _ _ more value in
     p.1 ∙ ap Err p.2 ∙ sym (ap (λ v. then v (λ xs. then (or_fault (nothing (many_left (follows number) 12 s.bytes.now)) s.spot (s.place + 12)) (λ _. Ok xs))) all)
 
@@ -33,12 +33,12 @@ loop-i-preserved c =
     let s = c.args.self.now in
     let inv = c.loop-i.invariant in
     let i = c.loop-i.i in
-    let x = c.in-ok-all.field-0 in
+    let x = c.in_ok-all.field-0 in
     let more : 0 < 12 - i = omega arith in
     let less : 12 - (i + 1) ≡ 12 - i - 1 = omega arith in
     let here : i < length c.loop-i.all = omega (arith, inv.0) in
     let left = c.split.ensures.left in
-    let value = value_at number.read _ _ _ s.spot _ (s.place + i) (Ok x) c.split.ensures.first inv.1 inv.2 c.in-ok-all.ensures in
+    let value = value_at number.read _ _ _ s.spot _ (s.place + i) (Ok x) c.split.ensures.first inv.1 inv.2 c.in_ok-all.ensures in
     let place : s.place + (i + 1) ≡ s.place + i + 1 = omega arith in (
       length-set c.loop-i.all i x ∙ inv.0,
       left.spot ∙ inv.1,
@@ -47,14 +47,14 @@ loop-i-preserved c =
       (λ j. reads_on (follows number) (less j) s.spot (place j) (left.bytes j) (take_more_set c.loop-i.all i x here j)) ∙ sym (on_more (follows number) (12 - i) s.spot (s.place + i) _ x (take i c.loop-i.all) more value) ∙ inv.4,
     )
 
-pub returns-in-err-nothing : goal.returns-in-err-nothing
-returns-in-err-nothing c =
+pub returns-in_err-nothing : goal.returns-in_err-nothing
+returns-in_err-nothing c =
     let s = c.args.self.now in
     let inv = c.loop-i.invariant in
     let last : c.loop-i.part.place ≡ s.place + 12 = omega (arith, inv.2) in
-    let p = err_from_is_err_and c.from-residual-in-err-nothing.result c.from-residual-in-err-nothing.ensures.1 in
+    let p = err_from_is_err_and c.from_residual-in_err-nothing.result c.from_residual-in_err-nothing.ensures.1 in
     let whole = all_read 12 c.loop-i.i s.spot s.place s.bytes.now c.loop-i.part.bytes.now c.loop-i.all (omega arith) inv.0 inv.3 inv.4 in
-    let left = c.in-err-nothing.ensures ∙ (λ j. or_fault (nothing c.loop-i.part.bytes.now) (inv.1 j) (last j)) in
+    let left = c.in_err-nothing.ensures ∙ (λ j. or_fault (nothing c.loop-i.part.bytes.now) (inv.1 j) (last j)) in
     p.1 ∙ ap Err p.2 ∙ sym (whole ∙ ap (λ v. then v (λ _. Ok c.loop-i.all)) (sym left))
 
 pub returns : goal.returns
@@ -63,5 +63,5 @@ returns c =
     let inv = c.loop-i.invariant in
     let last : c.loop-i.part.place ≡ s.place + 12 = omega (arith, inv.2) in
     let whole = all_read 12 c.loop-i.i s.spot s.place s.bytes.now c.loop-i.part.bytes.now c.loop-i.all (omega arith) inv.0 inv.3 inv.4 in
-    let left = c.in-ok-nothing.ensures ∙ (λ j. or_fault (nothing c.loop-i.part.bytes.now) (inv.1 j) (last j)) in
+    let left = c.in_ok-nothing.ensures ∙ (λ j. or_fault (nothing c.loop-i.part.bytes.now) (inv.1 j) (last j)) in
     sym (whole ∙ ap (λ v. then v (λ _. Ok c.loop-i.all)) (sym left))
