@@ -1,4 +1,6 @@
 // The peak energy rent of a month from its hours, apart from any book.
+#![tactic(auto)]
+
 mod hour;
 mod month;
 mod refusal;

@@ -1,8 +1,10 @@
 // Reads the hours of a month from standard input, and prints the month's peak energy rent or its refusal.
-use anyhow::anyhow;
+#![tactic(auto)]
+
 use rent_input::{Failure, Month, read_month, report_on};
 use std::io;
 use std::io::Read;
+use std::process::ExitCode;
 
 fn input(rt: &HostRuntime) -> io::Result<Vec<u8>> {
     let mut text = Vec::new(rt.alloc());
@@ -21,20 +23,20 @@ fn answer(rt: &HostRuntime, month: &Month) -> io::Result<()> {
 }
 
 // An input that cannot be read ends the program with a message and status 1, and nothing on standard output.
-fn main(rt: HostRuntime) -> anyhow::Result<()> {
+fn main(rt: HostRuntime) -> io::Result<ExitCode> {
     let text = input(&rt)?;
     match read_month(rt.alloc(), text.as_slice()) {
         Ok(month) => {
             answer(&rt, &month)?;
-            Ok(())
+            Ok(ExitCode::SUCCESS)
         }
         Err(Failure::Unreadable(fault)) => {
             eprintln!(rt; "unreadable: {fault}")?;
-            Err(anyhow!("unreadable input"))
+            Ok(ExitCode::FAILURE)
         }
         Err(Failure::NoMemory) => {
             eprintln!(rt; "out of memory")?;
-            Err(anyhow!("out of memory"))
+            Ok(ExitCode::FAILURE)
         }
     }
 }

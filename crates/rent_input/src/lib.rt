@@ -1,4 +1,6 @@
 // The input and the report of the program `rent`: a line with the peak of a month, and one for each of its hours.
+#![tactic(auto)]
+
 mod faults;
 mod line;
 mod messages;

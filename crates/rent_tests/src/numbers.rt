@@ -38,10 +38,10 @@ fn lines_and_fields(rt: HostRuntime) {
     let (first, left) = first_field(line);
     let (second, left) = next_field(left);
     let (missing, left) = next_field(left);
-    assert_eq!(rt; first, b"1");
-    assert_eq!(rt; second, b"2");
+    assert_eq!(rt; first, b"1".as_slice());
+    assert_eq!(rt; second, b"2".as_slice());
     assert_eq!(rt; missing.len() + left.len(), 0);
     let (last, none) = cut_line(rest);
-    assert_eq!(rt; last, b"3");
+    assert_eq!(rt; last, b"3".as_slice());
     assert_eq!(rt; none.len(), 0);
 }

@@ -6,8 +6,8 @@ use Rattle.peak_rent.proofs.month.rent_of.Goals as goal
 product : (m l p : _) → m ≤ 1000000 → l ≤ p → m * 19 * l ≤ 2 * p * 9500000
 product m l p hm hl = omega (arith, mul-le (m * 19) l 19000000 p (omega arith) hl)
 
-pub overflow-mul-result-2 : goal.overflow-mul-result-2
-overflow-mul-result-2 c = omega (arith, product c.args.margin c.args.load c.args.peak c.requires.figures.0 c.requires.figures.1)
+pub overflow_mul-result-2 : goal.overflow_mul-result-2
+overflow_mul-result-2 c = omega (arith, product c.args.margin c.args.load c.args.peak c.requires.figures.0 c.requires.figures.1)
 
 pub returns : goal.returns
 returns c =
