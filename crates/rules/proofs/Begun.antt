@@ -38,7 +38,7 @@ module _ (l : Ledger) (m : ℕ) (b : Begun l m) where
   same : {E : Type 0} → E → Fixed l l m
   same e = itself l m b
 
-  -- set_up is over
+  -- set-up is over
   over : {A : Type 0} (ticket : ℕ) (x : Unit {0}) → ticket_test l SetUp ticket ≡ Ok x → A
   over ticket x e = absurd (b.set_up (stage_of l SetUp ticket x e))
 

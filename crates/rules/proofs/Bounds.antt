@@ -2,7 +2,7 @@
 use Rattle.std.proofs.Common.{◌≡◌, ℕ, zero, suc, ◌≤◌, false, eqb, ltb, List, set, ℤ, pos, negsuc, nat_abs, Ok, subst, arith}
 use borrow.Author.Differences.{ints}
 use lib.Signed.{lt_z}
-use Rattle.std.specs.List.{AllByRecursion as All}
+use Rattle.std.specs.List.{AllByRecursion}
 use Rattle.std.proofs.ByRecursion.{All-get_or, All-push, All-set}
 use Rattle.std.proofs.lemmas.Bool.{or_parts, ltb-false}
 use Rattle.rules.specs.declared.rows.Zone.{Zone}
@@ -23,7 +23,7 @@ use Rattle.rules.proofs.Through.{passed}
 pub price_within : (p : ℕ) (x : Unit {0}) → price_test p ≡ Ok x → p ≤ 20000
 price_within p x e = ltb-false 20000 p (passed _ _ x e)
 
-pub rents_within : (rents : List ℕ) (x : Unit {0}) → rents_test rents ≡ Ok x → All (λ y. y ≤ 10000000000) rents
+pub rents_within : (rents : List ℕ) (x : Unit {0}) → rents_test rents ≡ Ok x → AllByRecursion (λ y. y ≤ 10000000000) rents
 rents_within rents x e = all_below 10000000000 rents (passed _ _ x e)
 
 pub cleared_within : (c : ℕ) (x : Unit {0}) → cleared_test c ≡ Ok x → c ≤ 200000
@@ -64,8 +64,8 @@ module _ (l : Ledger) (b : Bounded l.standing l.rents) where
   rent_bounded x h = record { zones = b.zones; resources = b.resources; loads = b.loads; trades = b.trades; entered = All-push (λ y. y.amount ≤ 10000000000) l.rents x b.entered h }
 
   -- a trade changes rows of positions alone
-  pub trade_bounded : (rs : List Resource) (t : Trade) → All ResourceBounded rs → TradeBounded t → Bounded (more_trade l.standing rs t) l.rents
+  pub trade_bounded : (rs : List Resource) (t : Trade) → AllByRecursion ResourceBounded rs → TradeBounded t → Bounded (more_trade l.standing rs t) l.rents
   trade_bounded rs t all h = record { zones = b.zones; resources = all; loads = b.loads; trades = All-push TradeBounded l.standing.trades t b.trades h; entered = b.entered }
 
-  pub row_bounded : (rs : List Resource) (i : ℕ) (x : Resource) (row : List ℕ) → All ResourceBounded rs → ResourceBounded x → All ResourceBounded (set rs i (with_row x row))
+  pub row_bounded : (rs : List Resource) (i : ℕ) (x : Resource) (row : List ℕ) → AllByRecursion ResourceBounded rs → ResourceBounded x → AllByRecursion ResourceBounded (set rs i (with_row x row))
   row_bounded rs i x row all h = All-set ResourceBounded rs i (with_row x row) h all

@@ -2,7 +2,7 @@
 use Rattle.std.proofs.Common.{◌≡◌, ℕ, Bool, true, false, not, eqb, List, length, ℤ, pos, ◌+ℤ◌, ◌-ℤ◌, nat_abs, ◌≤ℤ◌, ◌<ℤ◌, sym, refl, ap, ◌∙◌, ap₂, arith}
 use borrow.Author.Differences.{ints}
 use lib.IntN.{+ℤ_idr}
-use Rattle.std.specs.List.{AllByRecursion as All}
+use Rattle.std.specs.List.{AllByRecursion}
 use Rattle.std.proofs.lemmas.Bool.{eqb-true}
 use Rattle.rules.specs.Totals.{only, total, sum_to}
 use Rattle.rules.specs.declared.rows.Rent.{Rent}
@@ -21,7 +21,7 @@ use Rattle.rules.proofs.Sound.{TradeSound}
 use Rattle.rules.proofs.Zones.{zone_same, zone_add, zone_sub, exchanges_nil}
 
 -- bilaterals change no zone's sum of payments
-payments_are : (s : Standing) (z m : ℕ) → All (TradeSound s) s.trades → zone_sum s z (λ r. payment s r m) ≡ zone_sum s z (λ r. payment_without_bilaterals s r m)
+payments_are : (s : Standing) (z m : ℕ) → AllByRecursion (TradeSound s) s.trades → zone_sum s z (λ r. payment s r m) ≡ zone_sum s z (λ r. payment_without_bilaterals s r m)
 unfolding payment
 payments_are s z m h =
     zone_add s z (λ r. payment_without_bilaterals s r m) (λ r. total (exchanged r m) s.trades)
@@ -43,7 +43,7 @@ unfolding pool
 pooled s ps z m = refl
 
 -- the cost of a zone in a closed month is what its resources are paid net
-pub cost_is : (l : Ledger) (z m : ℕ) → All (TradeSound l.standing) l.standing.trades → closed l m ≡ true → nets l z m ≡ cost l.standing l.rents l.postings z m
+pub cost_is : (l : Ledger) (z m : ℕ) → AllByRecursion (TradeSound l.standing) l.standing.trades → closed l m ≡ true → nets l z m ≡ cost l.standing l.rents l.postings z m
 unfolding nets net cost credit
 cost_is l z m h c =
     zone_add s z (λ r. payment s r m -ℤ deduction s l.rents r m -ℤ month_penalty l.postings r m) (credit l m)
@@ -110,7 +110,7 @@ parties_few s z = sum_le (length s.loads) _ _ (λ k. by (eqb (load_of s k).zone 
         one true = omega (arith, ints)
         one false = omega (arith, ints)
 
-pub charges_fill : (l : Ledger) (z m : ℕ) → All (TradeSound l.standing) l.standing.trades → closed l m ≡ true → pos 0 <ℤ obligations l.standing z → JustBelow (charges l z m) (nets l z m) (loads_of l.standing z)
+pub charges_fill : (l : Ledger) (z m : ℕ) → AllByRecursion (TradeSound l.standing) l.standing.trades → closed l m ≡ true → pos 0 <ℤ obligations l.standing z → JustBelow (charges l z m) (nets l z m) (loads_of l.standing z)
 charges_fill l z m t c h =
     let f = shares_fill (length l.standing.loads) (charge_weight l.standing z) (cost l.standing l.rents l.postings z m) (weights_above l.standing z h) in
     rw (charges_are l z m c, cost_is l z m t c) (f.0, wider _ _ _ _ f.1 (parties_few l.standing z))

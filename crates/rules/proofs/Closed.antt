@@ -23,7 +23,6 @@ use Rattle.rules.specs.Penalties.{month_penalty, posting_of, added}
 use Rattle.rules.specs.Positions.{runs, moved, position}
 use Rattle.rules.specs.Rents.{deduction}
 use Rattle.rules.specs.Rows.{row_of, no_load}
-use Rattle.rules.specs.Runs.{zone, resource, load}
 use Rattle.rules.specs.Totals.{only, total, sum_to, each_to}
 use Rattle.rules.proofs.Entering.{rent_later}
 use Rattle.rules.proofs.Posting.{of_each, added_all, added_to}

@@ -1,6 +1,6 @@
 -- Every call keeps what lets the standing entries be entered again.
 use Rattle.std.proofs.Common.{◌≡◌, ℕ, zero, suc, ◌≤◌, false, ltb, List, [], ◌∷◌, ◌++◌, map, length, get_or, ℤ, nat_abs, Ok, Err, sym, refl, ap, subst, ap₂, append-nil, arith}
-use Rattle.std.specs.List.{AllByRecursion as All}
+use Rattle.std.specs.List.{AllByRecursion}
 use Rattle.std.proofs.ByRecursion.{All-get_or, All-from_get_or, All-push, All-weaker}
 use Rattle.std.proofs.lemmas.List.{length_push, map_push}
 use Rattle.std.proofs.lemmas.Bool.{or_parts, or_from, leb-false, ltb-false, le-ltb}
@@ -51,7 +51,7 @@ cleared_same [] (y ∷ ys) e h = absurd (omega arith)
 cleared_same (x ∷ xs) [] e h = absurd (omega arith)
 cleared_same (x ∷ xs) (y ∷ ys) e h = ap₂ (λ (u : Resource) (us : List Resource). u ∷ us) (ap as_cleared (h zero)) (cleared_same xs ys (omega arith) (λ i. h (suc i)))
 
-enters_same : (n : ℕ) (xs ys : List Resource) → SameButRows xs ys → All (ResourceEnters n) xs → All (ResourceEnters n) ys
+enters_same : (n : ℕ) (xs ys : List Resource) → SameButRows xs ys → AllByRecursion (ResourceEnters n) xs → AllByRecursion (ResourceEnters n) ys
 enters_same n xs ys h all = All-from_get_or (ResourceEnters n) ys no_resource (λ i o.
     let e = All-get_or (ResourceEnters n) xs i no_resource (omega (arith, h.count)) all in
     subst (ResourceEnters n) (sym (h.rest (suc i))) (record { zone = e.zone; cleared = e.cleared; supplied = e.supplied }))
@@ -161,7 +161,7 @@ module _ (l : Ledger) (k : EnteredIn l) where
       through_in Then l (obligation_test obligation) _ same (λ _ e₃.
       record { entered = load_more l.year l.peak l.standing k _ (record { zone = passed _ _ x e; obligation = e₃ }) (room_for 32 LoadsFull l.standing.loads _ x₂ e₂); zones = refl }))))
 
-  -- a trade that the book accepts now, set_up accepts
+  -- a trade that the book accepts now, set-up accepts
   trade_entered : (rs : List Resource) (t : Trade) → SameButRows l.standing.resources rs → enter 0 (trade_entry t) l ≡ Ok (with_standing l (more_trade l.standing rs t)) → Enters l (with_standing l (more_trade l.standing rs t))
   trade_entered rs t h e = record {
     entered = trade_more l.year l.peak l.standing k rs t h (simp append-nil at (trade_again l.standing.zones [] l.standing.loads t l _ e));

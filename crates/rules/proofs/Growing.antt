@@ -1,7 +1,7 @@
 -- What an entry that a book takes leaves: the standing entries, as they were entered, with that one more; and figures of
 -- at most eleven digits.
 use Rattle.std.proofs.Common.{◌≡◌, ℕ, zero, suc, ◌-◌, ◌^◌, ◌<◌, ◌≤◌, false, ◌||◌, ltb, leb, List, [], ◌∷◌, ◌++◌, map, length, set, ℤ, nat_abs, Some, Ok, Err, Result, sym, refl, ap, ◌∙◌, subst, append_assoc, append-nil, arith, length-set}
-use Rattle.std.specs.List.{slice_get, AllByRecursion as All}
+use Rattle.std.specs.List.{slice_get, AllByRecursion}
 use Rattle.std.proofs.lemmas.List.{map-append, map-set, length_push}
 use Rattle.std.proofs.lemmas.Bool.{ltb-false, leb-false, or_parts}
 use Rattle.rules.specs.declared.class.Class.{Class}
@@ -65,7 +65,7 @@ pub record Few (l : Ledger) : Type 0 where
 
 -- figures of at most eleven digits, and a capital letter
 abbrev pub Low : Entry → Type 0
-Low (Zone price rents) = (price < 10 ^ 11) × All (λ x. x < 10 ^ 11) rents
+Low (Zone price rents) = (price < 10 ^ 11) × AllByRecursion (λ x. x < 10 ^ 11) rents
 Low (Resource z b q s) = (z < 10 ^ 11) × ((65 ≤ b) × (b ≤ 90)) × (q < 10 ^ 11) × (s < 10 ^ 11)
 Low (Load z o) = (z < 10 ^ 11) × (nat_abs o < 10 ^ 11)
 Low (Bilateral s a f e q p) = (s < 10 ^ 11) × (a < 10 ^ 11) × (f < 10 ^ 11) × (e < 10 ^ 11) × (q < 10 ^ 11) × (p < 10 ^ 11)
@@ -93,7 +93,7 @@ taken_in l (Ok x) rest m h = (x, refl, h)
 taken_in l (Err e) rest m h = absurd (clash e m h)
 
 -- ---- what the tests tell
-rents_low : (rents : List ℕ) → All (λ x. x ≤ 10000000000) rents → All (λ x. x < 10 ^ 11) rents
+rents_low : (rents : List ℕ) → AllByRecursion (λ x. x ≤ 10000000000) rents → AllByRecursion (λ x. x < 10 ^ 11) rents
 rents_low [] h = tt
 rents_low (x ∷ xs) h = let here : x ≤ 10000000000 = h.0 in (omega arith, rents_low xs h.1)
 

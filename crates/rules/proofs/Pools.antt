@@ -2,7 +2,7 @@
 use Rattle.std.proofs.Common.{◌≡◌, ℕ, zero, suc, ◌+◌, ◌≤◌, Bool, true, false, cond, ◌&&◌, eqb, List, [], ◌∷◌, ◌++◌, length, ℤ, pos, ◌+ℤ◌, nat_abs, Err, sym, refl, ap, ◌∙◌, subst, arith}
 use borrow.Author.Differences.{ints}
 use lib.IntN.{+ℤ_idr, +ℤ_idl, +ℤ_assoc}
-use Rattle.std.specs.List.{AllByRecursion as All}
+use Rattle.std.specs.List.{AllByRecursion}
 use Rattle.std.proofs.lemmas.List.{append-nil, append_assoc}
 use Rattle.std.proofs.lemmas.Bool.{eqb-true}
 use Rattle.readings.specs.Table.{Table}
@@ -80,7 +80,7 @@ event_pool : (s : Standing) (rents : List Rent) (ps : List Posting) (t : Table) 
 event_pool s rents ps t e z m = rw (added_all s rents ps t e) (added_pool s rents ps t e (length s.resources) z m (omega arith))
 
 -- ---- a call that is no event
-none_posted : (s : Standing) (ps : List Posting) → All (PostingSound s 0) ps → ps ≡ []
+none_posted : (s : Standing) (ps : List Posting) → AllByRecursion (PostingSound s 0) ps → ps ≡ []
 none_posted s [] h = refl
 none_posted s (p ∷ ps) h = absurd (omega (arith, h.0.low, h.0.high))
 
@@ -88,10 +88,10 @@ nothing_pooled : (s : Standing) (z m : ℕ) → pool s [] z m ≡ pos 0
 unfolding pool month_penalty total
 nothing_pooled s z m = zone_nil s z
 
--- in set_up both pools are empty
-set_up_pool : (s s' : Standing) (ps : List Posting) (z m : ℕ) (b : ℕ) → b ≡ 0 → All (PostingSound s b) ps → pool s' ps z m ≡ pool s ps z m +ℤ pos 0
+-- in set-up both pools are empty
+set_up_pool : (s s' : Standing) (ps : List Posting) (z m : ℕ) (b : ℕ) → b ≡ 0 → AllByRecursion (PostingSound s b) ps → pool s' ps z m ≡ pool s ps z m +ℤ pos 0
 set_up_pool s s' ps z m b e h =
-    let none : ps ≡ [] = none_posted s ps (subst (λ (b : ℕ). All (PostingSound s b) ps) e h) in
+    let none : ps ≡ [] = none_posted s ps (subst (λ (b : ℕ). AllByRecursion (PostingSound s b) ps) e h) in
     rw (none, nothing_pooled s' z m, nothing_pooled s z m) refl
 
 -- a trade leaves every resource in its zone
@@ -209,7 +209,7 @@ step_pool l (rent ticket y amount) z m k = rent_pool l k z m ticket y amount
 step_pool l (close ticket) z m k = close_pool l k z m ticket
 step_pool l (next ticket) z m k = next_pool l k z m ticket
 
-after_pool : (cs : List Call) (l : Ledger) (z m : ℕ) → All LawfulCall cs → Kept l → pool (after_all l cs).standing (after_all l cs).postings z m ≡ pool l.standing l.postings z m +ℤ answered z m l cs
+after_pool : (cs : List Call) (l : Ledger) (z m : ℕ) → AllByRecursion LawfulCall cs → Kept l → pool (after_all l cs).standing (after_all l cs).postings z m ≡ pool l.standing l.postings z m +ℤ answered z m l cs
 unfolding after_all answered
 after_pool [] l z m w k = sym (+ℤ_idr (pool l.standing l.postings z m))
 after_pool (c ∷ cs) l z m w k =
@@ -218,7 +218,7 @@ after_pool (c ∷ cs) l z m w k =
     ∙ +ℤ_assoc (pool l.standing l.postings z m) (answer z m l c) (answered z m (step l c) cs)
 
 -- from the opening on, the pool is what was answered
-pub run_pool : (year peak : ℕ) (cs : List Call) (z m : ℕ) → All LawfulCall cs → Kept (opened year peak) → pool (after_all (opened year peak) cs).standing (after_all (opened year peak) cs).postings z m ≡ answered z m (opened year peak) cs
+pub run_pool : (year peak : ℕ) (cs : List Call) (z m : ℕ) → AllByRecursion LawfulCall cs → Kept (opened year peak) → pool (after_all (opened year peak) cs).standing (after_all (opened year peak) cs).postings z m ≡ answered z m (opened year peak) cs
 run_pool year peak cs z m w k =
     after_pool cs (opened year peak) z m w k
     ∙ ap (λ (x : ℤ). x +ℤ answered z m (opened year peak) cs) (nothing_pooled (opened year peak).standing z m)

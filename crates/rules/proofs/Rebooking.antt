@@ -1,4 +1,4 @@
--- A trade that was booked is booked again in set_up, whatever the zones and loads, and before resources that follow.
+-- A trade that was booked is booked again in set-up, whatever the zones and loads, and before resources that follow.
 use Rattle.std.proofs.Common.{◌≡◌, ℕ, zero, suc, ◌-◌, List, [], ◌∷◌, ◌++◌, map, length, set, ℤ, nat_abs, Some, Ok, Err, Result, refl, ap, ◌∙◌, arith, length-set}
 use Rattle.std.specs.Option.{ok_or}
 use Rattle.std.proofs.lemmas.List.{set-append_left}
@@ -31,7 +31,7 @@ numbered_grown (y ∷ xs) ys (suc (suc i)) x e = numbered_grown xs ys (suc i) x 
 found_still : (xs ys : List Resource) (n : ℕ) (x : Resource) → ok_or (numbered xs n) ResourceUnknown ≡ Ok x → ok_or (numbered (xs ++ ys) n) ResourceUnknown ≡ Ok x
 found_still xs ys n x e = rw (numbered_grown xs ys n x (given (numbered xs n) ResourceUnknown x e)) refl
 
--- months that have not begun now had not in set_up
+-- months that have not begun now had not in set-up
 months_sooner : (month first last : ℕ) (x : Unit {0}) → months_test month first last ≡ Ok x → months_test 0 first last ≡ Ok x
 months_sooner month first last x e = let h = months_tell month first last x e in rw (h.0, h.1, h.2, lt-leb first 0 (omega (arith, h.3))) refl
 
@@ -53,7 +53,7 @@ same : {B : Type 0} (t : Result B Refusal) (x : B) → t ≡ Ok x → t ≡ Ok x
 same t x e = e
 
 module _ (zs : List Zone) (rs : List Resource) (ks : List Load) where
-  -- in set_up, with these zones and loads, and with further resources
+  -- in set-up, with these zones and loads, and with further resources
   abbrev pub grown : Ledger → Ledger
   grown l = set_up l.year l.peak (record { zones = zs; resources = l.standing.resources ++ rs; loads = ks; trades = l.standing.trades })
 

@@ -1,7 +1,7 @@
 -- What stands in a book is entered again.
 use Rattle.std.proofs.Common.{◌≡◌, ℕ, ◌+◌, ◌<◌, ◌≤◌, List, [], ◌∷◌, ◌++◌, map, length, Ok, Result, refl, append_assoc, append-nil, arith}
 use lib.ListN.{length-map}
-use Rattle.std.specs.List.{AllByRecursion as All}
+use Rattle.std.specs.List.{AllByRecursion}
 use Rattle.std.proofs.lemmas.List.{length_push, map_push}
 use Rattle.std.proofs.lemmas.Bool.{lt-leb}
 use Rattle.rules.specs.declared.entry.Entry.{Entry}
@@ -18,7 +18,7 @@ use Rattle.rules.proofs.Classes.{class_laws}
 -- ---- one section of entries
 -- Where each entry goes in after those before it, all of them do.
 section : {X : Type 0} (entry_of : X → Entry) (at : List X → Ledger) (P : X → Type 0) (limit : ℕ) → ((done : List X) (x : X) → P x → length done < limit → enter 0 (entry_of x) (at done) ≡ Ok (at (done ++ x ∷ []))) →
-    (done rest : List X) → All P rest → length done + length rest ≤ limit → enter_all 0 (map entry_of rest) (at done) ≡ Ok (at (done ++ rest))
+    (done rest : List X) → AllByRecursion P rest → length done + length rest ≤ limit → enter_all 0 (map entry_of rest) (at done) ≡ Ok (at (done ++ rest))
 unfolding enter_all
 section entry_of at P limit goes done [] all h = rw append-nil refl
 section entry_of at P limit goes done (x ∷ rest) all h =
@@ -30,7 +30,7 @@ goes_on : {A B E : Type 0} (r : Result A E) (x : A) (rest : A → Result B E) (y
 goes_on r x rest y e k = rw e k
 
 module _ (year peak : ℕ) (s : Standing) where
-  -- the book in set_up once these zones, resources or loads are entered
+  -- the book in set-up once these zones, resources or loads are entered
   abbrev with_zones : List Zone → Ledger
   with_zones done = set_up year peak (record { zones = done; resources = []; loads = []; trades = [] })
 

@@ -25,7 +25,7 @@ module _ (l : Ledger) (m : ℕ) (c : closed l m ≡ true) where
   same : {E : Type 0} → E → MonthStays l l m
   same e = itself l m c
 
-  -- set_up is over
+  -- set-up is over
   over : {A : Type 0} (ticket : ℕ) (x : Unit {0}) → ticket_test l SetUp ticket ≡ Ok x → A
   over ticket x e = absurd (never_set_up l m c (stage_of l SetUp ticket x e))
 

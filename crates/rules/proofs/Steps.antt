@@ -1,6 +1,6 @@
 -- Every call keeps the ledger sound.
 use Rattle.std.proofs.Common.{◌≡◌, ℕ, ◌<◌, false, not, eqb, ltb, leb, List, [], ◌∷◌, length, ℤ, nat_abs, Ok, refl, arith}
-use Rattle.std.specs.List.{AllByRecursion as All}
+use Rattle.std.specs.List.{AllByRecursion}
 use Rattle.std.proofs.lemmas.Bool.{eqb-true, eqb-false, leb-false, ltb-false, or_parts, not-false}
 use Rattle.readings.specs.Table.{Table, Lawful}
 use Rattle.rules.specs.declared.refusal.Refusal.TheVariants.{ZonesFull, ResourcesFull, LoadsFull, TradesFull, ResourceUnknown, Position}
@@ -175,7 +175,7 @@ step_kept l (rent ticket z amount) w k = rent_kept l k ticket z amount
 step_kept l (close ticket) w k = close_kept l k ticket
 step_kept l (next ticket) w k = next_kept l k ticket
 
-pub after_kept : (cs : List Call) (l : Ledger) → All LawfulCall cs → Kept l → Kept (after_all l cs)
+pub after_kept : (cs : List Call) (l : Ledger) → AllByRecursion LawfulCall cs → Kept l → Kept (after_all l cs)
 unfolding after_all
 after_kept [] l w k = k
 after_kept (c ∷ cs) l w k = after_kept cs (step l c) w.1 (step_kept l c w.0 k)

@@ -26,14 +26,14 @@ abbrev pub spending : {T U : Type 0} → T → (ℕ → U) → Answered ℕ Refu
 spending t ticket (Ok month, l) = (Ok (ticket month), l)
 spending t ticket (Err refusal, l) = (Err (record { refusal = refusal; ticket = t }), l)
 
--- ---- opening; the answer is the month of the set_up ticket
+-- ---- opening; the answer is the month of the set-up ticket
 abbrev pub open_call : Ledger → ℕ → ℕ → Answered ℕ Refusal
 open_call l year peak =
     after l (year_test year) (λ _.
     after l (peak_test peak) (λ _.
     accept 0 (opened year peak)))
 
--- ---- entries of set_up
+-- ---- entries of set-up
 abbrev pub zone_call : Ledger → ℕ → ℕ → List ℕ → Answered ℕ Refusal
 zone_call l ticket price rents = after l (ticket_test l SetUp ticket) (λ _. into l (enter_zone l.standing price rents))
 

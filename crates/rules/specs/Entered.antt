@@ -1,7 +1,7 @@
 -- What the standing entries of every book keep, so that they can be entered again: each passes the tests of its entry, and
 -- the trades, booked again from positions as cleared, make the positions that stand. Assumes nothing.
 use Rattle.std.specs.Prelude.{◌≡◌, ℕ, ◌≤◌, false, [], map, length, replicate, Ok}
-use Rattle.std.specs.List.{AllByRecursion as All}
+use Rattle.std.specs.List.{AllByRecursion}
 use Rattle.rules.specs.declared.rows.Zone.{Zone}
 use Rattle.rules.specs.declared.rows.Resource.{Resource}
 use Rattle.rules.specs.declared.rows.Load.{Load}
@@ -30,21 +30,21 @@ pub record LoadEnters (zones : ℕ) (k : Load) : Type 0 where
 abbrev pub as_cleared : Resource → Resource
 as_cleared r = with_row r (replicate 12 r.cleared)
 
--- the book in set_up with these entries before any trade
+-- the book in set-up with these entries before any trade
 abbrev pub untraded : (year peak : ℕ) → Standing → Ledger
 untraded year peak s = set_up year peak (record { zones = s.zones; resources = map as_cleared s.resources; loads = s.loads; trades = [] })
 
 pub record Entered (year peak : ℕ) (s : Standing) : Type 0 where
   pub year_passes : year_test year ≡ Ok tt
   pub peak_passes : peak_test peak ≡ Ok tt
-  pub zones : All ZoneEnters s.zones
+  pub zones : AllByRecursion ZoneEnters s.zones
   pub zones_fit : length s.zones ≤ 8
-  pub resources : All (ResourceEnters (length s.zones)) s.resources
+  pub resources : AllByRecursion (ResourceEnters (length s.zones)) s.resources
   pub resources_fit : length s.resources ≤ 64
-  pub loads : All (LoadEnters (length s.zones)) s.loads
+  pub loads : AllByRecursion (LoadEnters (length s.zones)) s.loads
   pub loads_fit : length s.loads ≤ 32
   pub trades : enter_all 0 (map trade_entry s.trades) (untraded year peak s) ≡ Ok (set_up year peak s)
 
 -- every zone has its rents of the twelve months before June
 abbrev pub TwelveRents : Standing → Type 0
-TwelveRents s = All (λ (z : Zone). length z.rents ≡ 12) s.zones
+TwelveRents s = AllByRecursion (λ (z : Zone). length z.rents ≡ 12) s.zones

@@ -1,6 +1,6 @@
 -- What every ledger of a run keeps. Assumes nothing.
 use Rattle.std.specs.Prelude.{◌≡◌, ℕ, ◌*◌, ◌≤◌, List, pos, ◌+ℤ◌, ◌*ℤ◌, ◌≤ℤ◌, ◌<ℤ◌, unsigned_abs}
-use Rattle.std.specs.List.{AllByRecursion as All}
+use Rattle.std.specs.List.{AllByRecursion}
 use Rattle.rules.specs.declared.rows.Zone.{Zone}
 use Rattle.rules.specs.declared.rows.Resource.{Resource}
 use Rattle.rules.specs.declared.rows.Load.{Load}
@@ -42,13 +42,13 @@ pub record Limits (s : Standing) (rents : List Rent) (ps : List Posting) (r m : 
 pub record Sound (s : Standing) (b : ℕ) (rents : List Rent) (ps : List Posting) : Type 0 where
   pub year : b ≤ 12
   pub rows : (r m : ℕ) → Known s r → 1 ≤ m → m ≤ 12 → RowRight s r m
-  pub trades : All (TradeSound s) s.trades
-  pub postings : All (PostingSound s b) ps
+  pub trades : AllByRecursion (TradeSound s) s.trades
+  pub postings : AllByRecursion (PostingSound s b) ps
   pub limits : (r m : ℕ) → Known s r → 1 ≤ m → m ≤ b → Limits s rents ps r m
 
 -- ---- the limits of what was entered, on which products of it rest
 abbrev pub ZoneBounded : Zone → Type 0
-ZoneBounded z = (z.price ≤ 20000) × All (λ x. x ≤ 10000000000) z.rents
+ZoneBounded z = (z.price ≤ 20000) × AllByRecursion (λ x. x ≤ 10000000000) z.rents
 
 abbrev pub ResourceBounded : Resource → Type 0
 ResourceBounded r = (r.cleared ≤ 200000) × (r.supplied ≤ r.cleared)
@@ -61,11 +61,11 @@ TradeBounded (Bilateral a b f l q p) = (q ≤ 200000) × (p ≤ 20000)
 TradeBounded (Auction r f l q p) = (unsigned_abs q ≤ 200000) × (p ≤ 20000)
 
 pub record Bounded (s : Standing) (rents : List Rent) : Type 0 where
-  pub zones : All ZoneBounded s.zones
-  pub resources : All ResourceBounded s.resources
-  pub loads : All LoadBounded s.loads
-  pub trades : All TradeBounded s.trades
-  pub entered : All (λ x. x.amount ≤ 10000000000) rents
+  pub zones : AllByRecursion ZoneBounded s.zones
+  pub resources : AllByRecursion ResourceBounded s.resources
+  pub loads : AllByRecursion LoadBounded s.loads
+  pub trades : AllByRecursion TradeBounded s.trades
+  pub entered : AllByRecursion (λ x. x.amount ≤ 10000000000) rents
 
 -- the month of a stage
 abbrev pub StageMonth : Stage → ℕ → Type 0

@@ -18,7 +18,7 @@ pub record Standing : Type 0 where
   pub loads : List Load
   pub trades : List Trade
 
--- one period: month 0 is set_up, and the rents, events and postings are those of the months so far
+-- one period: month 0 is set-up, and the rents, events and postings are those of the months so far
 pub record Ledger : Type 0 where
   pub year : ℕ
   pub peak : ℕ

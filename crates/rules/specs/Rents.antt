@@ -11,7 +11,7 @@ use Rattle.rules.specs.Totals.{◌÷◌, only, total, sum_to}
 unfoldable pub rent_before : ℕ → ℕ → Rent → ℤ
 rent_before z m x = only (x.zone == z && nat_lt x.month m) (pos x.amount)
 
--- A: the mean of the zone's twelve rents before month m, those of set_up and those entered since
+-- A: the mean of the zone's twelve rents before month m, those of set-up and those entered since
 unfoldable pub mean_rent : Standing → List Rent → ℕ → ℕ → ℤ
 mean_rent s rents z m = (total pos (drop (m - 1) (row_of no_zone s.zones z).rents) +ℤ total (rent_before z m) rents) ÷ 12
 

@@ -1,4 +1,4 @@
--- The standing entries as they were entered, and the set_up that a fresh book makes of them again: zones first, then
+-- The standing entries as they were entered, and the set-up that a fresh book makes of them again: zones first, then
 -- resources, loads and trades, each in its order. Assumes nothing.
 use Rattle.std.specs.Prelude.{◌≡◌, ℕ, List, [], ◌∷◌, ◌++◌, map, Ok, Err, Result}
 use Rattle.rules.specs.declared.entry.Entry.{Entry}
@@ -37,7 +37,7 @@ abbrev pub taken : {A : Type 0} → Answered A Refusal → Result Ledger Refusal
 taken (Ok answer, l) = Ok l
 taken (Err refusal, l) = Err refusal
 
--- the call of an entry, with a set_up ticket of that month
+-- the call of an entry, with a set-up ticket of that month
 unfoldable pub enter : ℕ → Entry → Ledger → Result Ledger Refusal
 enter ticket (entry.Zone price rents) l = taken (zone_call l ticket price rents)
 enter ticket (entry.Resource zone letter cleared supplied) l = taken (resource_call l ticket zone letter cleared supplied)
@@ -65,11 +65,11 @@ made_of year peak zones resources loads trades =
 abbrev pub remade : Ledger → Result Ledger Refusal
 remade l = made_of l.year l.peak (map zone_entry l.standing.zones) (map resource_entry l.standing.resources) (map load_entry l.standing.loads) (map trade_entry l.standing.trades)
 
--- a book in set_up with these entries
+-- a book in set-up with these entries
 abbrev pub set_up : (year peak : ℕ) → Standing → Ledger
 set_up year peak s = with_standing (opened year peak) s
 
--- the set_up with the same entries
+-- the set-up with the same entries
 abbrev pub fresh : Ledger → Ledger
 fresh l = set_up l.year l.peak l.standing
 

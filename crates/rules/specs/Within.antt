@@ -8,9 +8,9 @@ use Rattle.rules.specs.Tests.{any_above}
 abbrev pub within : List ℕ → Bool
 within row = not (any_above 200000 row)
 
-abbrev pub rows_within : List Resource → Bool
-rows_within [] = true
-rows_within (r ∷ rs) = within r.row && rows_within rs
+abbrev pub all_within : List Resource → Bool
+all_within [] = true
+all_within (r ∷ rs) = within r.row && all_within rs
 
 -- what a change makes of the position of the k-th month alone
 abbrev pub changed_month : Change → ℕ → ℕ → Option ℕ

@@ -1,4 +1,4 @@
-// What is entered into a book in set_up, and the trades that are booked there: an entry for each line of a standing sheet.
+// What is entered into a book in set-up, and the trades that are booked there: an entry for each line of a standing sheet.
 #[derive(Clone, Copy)]
 pub enum Entry {
     Zone {

@@ -43,7 +43,7 @@ pub fn refused_changes_nothing() -> bool
     true
 }
 
-// The standing entries of every book, entered again in set_up, are accepted and make the same entries.
+// The standing entries of every book, entered again in set-up, are accepted and make the same entries.
 pub fn entries_replay() -> bool
     ensures { EntriesReplay }
 {

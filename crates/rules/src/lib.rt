@@ -1,4 +1,6 @@
 // The rules of the settlement: the rows of a book, its refusals and positions, and the theorems over every list of calls.
+#![tactic(auto)]
+
 pub mod answers;
 pub mod calendar;
 pub mod class;

@@ -14,5 +14,5 @@ returns-then-month-lt1 c =
 
 pub returns : goal.returns
 returns c =
-    row_at_number (months c.days-of-february.result) c.args.month c.if-month-lt1.false
-    ∙ ap (λ (n : ℕ). row_of 0 (months n) c.args.month) c.days-of-february.ensures
+    row_at_number (months c.days_of_february.result) c.args.month c.if-month-lt1.false
+    ∙ ap (λ (n : ℕ). row_of 0 (months n) c.args.month) c.days_of_february.ensures
