@@ -1,5 +1,5 @@
 -- The deduction of a resource from its row, its zone's price and the mean rent. Assumes nothing.
-use Rattle.std.proofs.Common.{◌≡◌, ℕ, ◌-◌, ◌*◌, ◌/◌, ◌≤◌, min, true, List, get_or, ℤ, pos, ◌-ℤ◌, ◌*ℤ◌, sym, refl, ap, ◌∙◌, subst, ap₂, arith}
+use Rattle.std.proofs.Common.{◌≡◌, ℕ, ◌-◌, ◌*◌, ◌/◌, ◌≤◌, min, true, List, get_or, ℤ, pos, ◌-ℤ◌, ◌*ℤ◌, sym, ap, ◌∙◌, subst, ap₂, arith}
 use mathlib.Core.Logic.{∥∥₁_elim}
 use native.Mathlib.Bridge.{le_prop}
 use borrow.Author.Differences.{ints}
@@ -8,12 +8,12 @@ use Rattle.std.specs.Int.{int_max, int_min}
 use Rattle.rules.specs.declared.rows.Rent.{Rent}
 use Rattle.rules.specs.declared.rows.Resource.{Resource}
 use Rattle.rules.specs.Classes.{has_deduction}
-use Rattle.rules.specs.Ledger.{Standing, resource_of, zone_of, price_of}
+use Rattle.rules.specs.Ledger.{Standing, resource_of, zone_of}
 use Rattle.rules.specs.Positions.{position, row_at}
 use Rattle.rules.specs.Rents.{mean_rent, exposed, deduction}
 use Rattle.rules.specs.Rows.{row_of, no_zone}
 use Rattle.rules.specs.Sums.{Known}
-use Rattle.rules.specs.Totals.{◌÷◌, only}
+use Rattle.rules.specs.Totals.{◌÷◌}
 use Rattle.rules.proofs.Totals.{only_true}
 use Rattle.payments.specs.Settles.{Settles}
 use Rattle.payments.proofs.Paid.{price_is}

@@ -1,8 +1,8 @@
 -- What stands under a number keeps the limits of the entries. Assumes nothing.
-use Rattle.std.proofs.Common.{◌≡◌, ℕ, zero, suc, ◌-◌, ◌≤◌, List, [], ◌∷◌, length, get_or, take, drop, Some, None, refl, subst, arith, length-drop, take_all}
+use Rattle.std.proofs.Common.{◌≡◌, ℕ, zero, suc, ◌-◌, ◌≤◌, List, [], ◌∷◌, length, get_or, take, drop, None, refl, subst, arith, length-drop, take_all}
 use mathlib.Core.Logic.{∥∥₁_elim, ∥∥₁_map}
 use native.Mathlib.Bridge.{le_prop}
-use Rattle.std.specs.List.{slice_get, AllByRecursion as All}
+use Rattle.std.specs.List.{slice_get, AllByRecursion}
 use Rattle.std.proofs.ByRecursion.{All-drop}
 use Rattle.rules.specs.declared.rows.Zone.{Zone}
 use Rattle.rules.specs.declared.rows.Resource.{Resource}
@@ -22,12 +22,12 @@ not_found d xs zero e = refl
 not_found d xs (suc i) e = nth_none d xs i e
 
 -- what holds of every row, and of none
-get_or_all : {X : Type 0} (P : X → Type 0) (d : X) (xs : List X) (i : ℕ) → P d → All P xs → P (get_or xs i d)
+get_or_all : {X : Type 0} (P : X → Type 0) (d : X) (xs : List X) (i : ℕ) → P d → AllByRecursion P xs → P (get_or xs i d)
 get_or_all P d [] i h a = h
 get_or_all P d (x ∷ xs) zero h a = a.0
 get_or_all P d (x ∷ xs) (suc i) h a = get_or_all P d xs i h a.1
 
-pub row_all : {X : Type 0} (P : X → Type 0) (d : X) (xs : List X) (n : ℕ) → P d → All P xs → P (row_of d xs n)
+pub row_all : {X : Type 0} (P : X → Type 0) (d : X) (xs : List X) (n : ℕ) → P d → AllByRecursion P xs → P (row_of d xs n)
 row_all P d xs zero h a = h
 row_all P d xs (suc i) h a = get_or_all P d xs i h a
 
@@ -57,9 +57,9 @@ module _ (s : Standing) (k : ∥ Settles s ∥₁) where
   pub supplied_most : (n : ℕ) (r : Resource) → resource_of s n ≡ r → r.supplied ≤ r.cleared
   supplied_most n r e = ∥∥₁_elim k le_prop (λ h. (resource_bounded n r e h).1)
 
-  pub trades_bounded : ∥ All TradeBounded s.trades ∥₁
-  trades_bounded = ∥∥₁_map {B = All TradeBounded s.trades} k (λ h. h.trades)
+  pub trades_bounded : ∥ AllByRecursion TradeBounded s.trades ∥₁
+  trades_bounded = ∥∥₁_map {B = AllByRecursion TradeBounded s.trades} k (λ h. h.trades)
 
-  pub rents_bounded : (n : ℕ) (z : Zone) (k : ℕ) → row_of no_zone s.zones n ≡ z → ∥ All (λ x. x ≤ 10000000000) (drop k z.rents) ∥₁
-  rents_bounded n z i e = ∥∥₁_map {B = All (λ x. x ≤ 10000000000) (drop i z.rents)} k
+  pub rents_bounded : (n : ℕ) (z : Zone) (k : ℕ) → row_of no_zone s.zones n ≡ z → ∥ AllByRecursion (λ x. x ≤ 10000000000) (drop k z.rents) ∥₁
+  rents_bounded n z i e = ∥∥₁_map {B = AllByRecursion (λ x. x ≤ 10000000000) (drop i z.rents)} k
       (λ h. All-drop (λ x. x ≤ 10000000000) i z.rents (subst ZoneBounded e (row_all ZoneBounded no_zone s.zones n (omega arith, tt) h.zones)).1)

@@ -1,12 +1,11 @@
 -- The payment of a resource from its row and its zone's price. Assumes nothing.
-use Rattle.std.proofs.Common.{◌≡◌, ℕ, List, ℤ, pos, ◌+ℤ◌, ◌-ℤ◌, ◌*ℤ◌, sym, refl, ap, ◌∙◌, ap₂}
+use Rattle.std.proofs.Common.{◌≡◌, ℕ, List, ℤ, pos, ◌+ℤ◌, ◌-ℤ◌, ◌*ℤ◌, sym, ap, ◌∙◌, ap₂}
 use Rattle.rules.specs.declared.rows.Resource.{Resource}
 use Rattle.rules.specs.declared.rows.Trade.{Trade}
 use Rattle.rules.specs.Ledger.{Standing, resource_of, zone_of, price_of}
-use Rattle.rules.specs.Payments.{auctioned, exchanged, payment, payment_without_bilaterals}
+use Rattle.rules.specs.Payments.{payment, payment_without_bilaterals}
 use Rattle.rules.specs.Rows.{row_of, no_zone}
 use Rattle.rules.specs.Totals.{total}
-use Rattle.rules.proofs.Totals.{total_same}
 use Rattle.payments.specs.declared.pays.Kind.TheVariants.{Auctions, Bilaterals}
 use Rattle.payments.specs.Pays.{pays}
 

@@ -1,9 +1,8 @@
 -- How large the amounts of trades can be. Assumes nothing.
-use Rattle.std.proofs.Common.{◌≡◌, ℕ, ◌+◌, ◌*◌, ◌<◌, ◌≤◌, List, length, get_or, take, ℤ, pos, ◌+ℤ◌, ◌*ℤ◌, nat_abs, sym, refl, ap, ◌∙◌, subst, arith}
+use Rattle.std.proofs.Common.{◌≡◌, ℕ, ◌+◌, ◌<◌, ◌≤◌, List, length, get_or, take, ℤ, pos, ◌+ℤ◌, ◌*ℤ◌, nat_abs, ap, ◌∙◌, subst, arith}
 use mathlib.Core.Logic.{∥∥₁_elim, ∥∥₁_map}
 use native.Mathlib.Bridge.{le_prop}
-use borrow.Author.Differences.{ints}
-use Rattle.std.specs.List.{AllByRecursion as All}
+use Rattle.std.specs.List.{AllByRecursion}
 use Rattle.std.proofs.lemmas.Nat.{mul-le}
 use Rattle.std.proofs.ByRecursion.{All-get_or}
 use Rattle.std.proofs.lemmas.List.{take_more}
@@ -31,7 +30,7 @@ module _ (t : Trade) (b : ∥ TradeBounded t ∥₁) where
   auction_price r f l q p e = ∥∥₁_elim b le_prop (λ k. (subst TradeBounded e k).1)
 
 -- the trade at a place of the list
-pub trade_bounded : (ts : List Trade) (i : ℕ) (d : Trade) → ∥ All TradeBounded ts ∥₁ → i < length ts → ∥ TradeBounded (get_or ts i d) ∥₁
+pub trade_bounded : (ts : List Trade) (i : ℕ) (d : Trade) → ∥ AllByRecursion TradeBounded ts ∥₁ → i < length ts → ∥ TradeBounded (get_or ts i d) ∥₁
 trade_bounded ts i d b h = ∥∥₁_map {B = TradeBounded (get_or ts i d)} b (All-get_or TradeBounded ts i d h)
 
 -- one more of a sum

@@ -1,4 +1,6 @@
 // What a resource is paid for a month, and what is deducted for rents.
+#![tactic(auto)]
+
 mod deducting;
 mod paying;
 mod pays;

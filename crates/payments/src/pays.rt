@@ -1,6 +1,6 @@
 // What trades pay a resource for a month.
 ghost use Rattle.std.specs.Prelude.{◌≡◌, ◌*◌, ◌≤◌, ◌&&◌, length, pos, ◌-ℤ◌, ◌*ℤ◌, nat_le, unsigned_abs};
-ghost use Rattle.std.specs.List.{AllByRecursion as All};
+ghost use Rattle.std.specs.List.{AllByRecursion};
 ghost use Rattle.rules.specs.Kept.{TradeBounded};
 ghost use Rattle.rules.specs.Totals.{only, total};
 ghost use Rattle.payments.specs.Pays.{pays};
@@ -87,7 +87,7 @@ fn pay(kind: Kind, trade: Trade, resource: u64, month: u64) -> i64
 
 // What the trades of a kind pay the resource for the month, in all.
 pub fn pay_in_all(kind: Kind, trades: &[Trade], resource: u64, month: u64) -> i64
-    requires { (∥ All TradeBounded trades.now ∥₁) × (length trades.now ≤ 128) }
+    requires { (∥ AllByRecursion TradeBounded trades.now ∥₁) × (length trades.now ≤ 128) }
     ensures value { result ≡ total (pays kind resource month) trades.now }
     ensures most { unsigned_abs result ≤ 512000000000 }
 {

@@ -1,6 +1,6 @@
 // The mean of a zone's twelve rents before a month.
 ghost use Rattle.std.specs.Prelude.{◌≡◌, ◌-◌, ◌*◌, ◌≤◌, ◌&&◌, length, drop, pos, ◌==◌, nat_lt};
-ghost use Rattle.std.specs.List.{AllByRecursion as All};
+ghost use Rattle.std.specs.List.{AllByRecursion};
 ghost use Rattle.rules.specs.Rents.{rent_before, mean_rent as mean};
 ghost use Rattle.rules.specs.Rows.{row_of, no_zone};
 ghost use Rattle.rules.specs.Totals.{total};
@@ -11,7 +11,7 @@ use rules::rows::Rent;
 use standing::Standing;
 
 fn sum(rents: &[u64]) -> u64
-    requires { (∥ All (λ x. x ≤ 10000000000) rents.now ∥₁) × (length rents.now ≤ 12) }
+    requires { (∥ AllByRecursion (λ x. x ≤ 10000000000) rents.now ∥₁) × (length rents.now ≤ 12) }
     ensures value { pos result ≡ total pos rents.now }
     ensures most { result ≤ 120000000000 }
 {

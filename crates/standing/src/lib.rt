@@ -1,4 +1,6 @@
 // The standing entries of a book: zones, resources, loads and trades, entered and booked after their tests.
+#![tactic(auto)]
+
 mod entry;
 mod limits;
 mod state;

@@ -1,6 +1,6 @@
 // The lists of standing entries. They have their whole memory from the start, so no later call asks for any.
 ghost use Rattle.std.specs.Prelude.{◌≡◌, ◌≤◌, true, vec_len, vec_capacity};
-ghost use Rattle.rules.specs.Within.{rows_within};
+ghost use Rattle.rules.specs.Within.{all_within};
 
 use rules::rows::{Load, Resource, Trade, Zone};
 
@@ -23,5 +23,5 @@ pub struct Standing {
     ghost resource_room: { 64 ≤ vec_capacity resources },
     ghost load_room: { 32 ≤ vec_capacity loads },
     ghost trade_room: { 128 ≤ vec_capacity trades },
-    ghost rows_within: { rows_within resources.items ≡ true },
+    ghost rows_within: { all_within resources.items ≡ true },
 }

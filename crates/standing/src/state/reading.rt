@@ -17,7 +17,10 @@ impl Standing {
         ensures stands { OnOk result ((1 ≤ number) × (number ≤ vec_len self.now.resources)) }
         ensures limits { IfOk result (λ x. within x.row ≡ true) }
     {
-        self.test_resource(number)
+        match entry(&self.resources, number) {
+            Some(resource) => Ok(resource),
+            None => Err(Refusal::ResourceUnknown),
+        }
     }
 
     // The zone of that number, if there is one.

@@ -65,10 +65,7 @@ impl Standing {
         ensures stands { OnOk result ((1 ≤ number) × (number ≤ vec_len self.now.resources)) }
         ensures limits { IfOk result (λ x. within x.row ≡ true) }
     {
-        match entry(&self.resources, number) {
-            Some(resource) => Ok(resource),
-            None => Err(Refusal::ResourceUnknown),
-        }
+        self.resource(number)
     }
 
     // Books the trade after the others, and answers its number.

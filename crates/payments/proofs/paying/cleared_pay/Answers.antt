@@ -1,4 +1,4 @@
-use Rattle.std.proofs.Common.{◌≡◌, ℕ, ◌-◌, ◌*◌, ◌≤◌, ℤ, pos, ◌-ℤ◌, ◌*ℤ◌, nat_abs, sym, ap, ◌∙◌, subst, arith, w64, to_z}
+use Rattle.std.proofs.Common.{◌≡◌, ℕ, ◌-◌, ◌*◌, ◌≤◌, pos, ◌-ℤ◌, ◌*ℤ◌, nat_abs, sym, ap, ◌∙◌, subst, arith, w64, to_z}
 use borrow.Author.Differences.{ints}
 use Rattle.std.proofs.lemmas.Nat.{mul-le}
 use Rattle.payments.proofs.paying.cleared_pay.Goals as goal
@@ -10,8 +10,8 @@ less c s h = omega (arith, ints)
 small : (c : Start) → (c.args.cleared - c.args.supplied) * c.args.price ≤ 4000000000
 small c = mul-le (c.args.cleared - c.args.supplied) c.args.price 200000 20000 (omega arith) c.requires.1.1
 
-pub overflow-cast-result : goal.overflow-cast-result
-overflow-cast-result c = omega (arith, ints, small c)
+pub overflow_cast-result : goal.overflow_cast-result
+overflow_cast-result c = omega (arith, ints, small c)
 
 pub returns : goal.returns
 returns c =

@@ -12,10 +12,10 @@ same c = ap₂ ◌*ℤ◌ (to_z-of_z w64 c.args.quantity c.ranges.quantity) (ome
 fits : (c : Start) → SFits w64 (c.args.quantity *ℤ pos c.args.price)
 fits c = omega (arith, ints, product_small c.args.quantity c.args.price c.requires.0 c.requires.1)
 
-pub overflow-mul-result : goal.overflow-mul-result
-overflow-mul-result c = subst (SFits w64) (sym (same c)) (fits c)
+pub overflow_mul-result : goal.overflow_mul-result
+overflow_mul-result c = subst (SFits w64) (sym (same c)) (fits c)
 
 pub returns : goal.returns
 returns c =
-    let e = to_z-of_z w64 _ (overflow-mul-result c) ∙ same c in
+    let e = to_z-of_z w64 _ (overflow_mul-result c) ∙ same c in
     record { value = e; most = subst (λ z. nat_abs z ≤ 4000000000) (sym e) (product_small c.args.quantity c.args.price c.requires.0 c.requires.1) }

@@ -1,4 +1,4 @@
-use Rattle.std.proofs.Common.{◌≡◌, refl, ap, ◌∙◌, arith, take_all}
+use Rattle.std.proofs.Common.{refl, ap, ◌∙◌, arith, take_all}
 use borrow.Author.Differences.{ints}
 use Rattle.rules.specs.declared.rows.Trade.TheVariants.{Bilateral}
 use Rattle.rules.specs.Totals.{total}

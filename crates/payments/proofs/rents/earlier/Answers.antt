@@ -3,10 +3,10 @@ use Rattle.rules.specs.Rents.{rent_before}
 use Rattle.rules.specs.Totals.{only}
 use Rattle.payments.proofs.rents.earlier.Goals as goal
 
-pub returns-then-is-earlier : goal.returns-then-is-earlier
+pub returns-then-is_earlier : goal.returns-then-is_earlier
 unfolding rent_before only
-returns-then-is-earlier c = search rules
+returns-then-is_earlier c = search rules
 
-pub returns-else-is-earlier : goal.returns-else-is-earlier
+pub returns-else-is_earlier : goal.returns-else-is_earlier
 unfolding rent_before only
-returns-else-is-earlier c = search rules
+returns-else-is_earlier c = search rules

@@ -1,5 +1,5 @@
-use Rattle.std.proofs.Common.{◌≡◌, ℕ, ◌-◌, ◌≤◌, length, drop, pos, sym, refl, ap, ◌∙◌, subst, arith, rules}
-use Rattle.std.specs.List.{AllByRecursion as All}
+use Rattle.std.proofs.Common.{◌≡◌, ◌-◌, ◌≤◌, length, drop, pos, sym, ap, ◌∙◌, subst, arith, rules}
+use Rattle.std.specs.List.{AllByRecursion}
 use Rattle.rules.specs.declared.rows.Zone.{Zone}
 use Rattle.rules.specs.Rows.{no_zone}
 use Rattle.rules.specs.Totals.{total}
@@ -14,7 +14,7 @@ sum-requires c =
     let here = (found no_zone s.zones c.args.zone c.in-Some.found (sym c.in-Some.ensures)).here in
     let end = sym (to_its_end (c.args.month - 1) c.in-Some.found.rents) in
     let twelve : length c.in-Some.found.rents ≡ 12 = search rules in (
-      subst (λ xs. ∥ All (λ x. x ≤ 10000000000) xs ∥₁) end (rents_bounded s c.requires.0 c.args.zone c.in-Some.found (c.args.month - 1) here),
+      subst (λ xs. ∥ AllByRecursion (λ x. x ≤ 10000000000) xs ∥₁) end (rents_bounded s c.requires.0 c.args.zone c.in-Some.found (c.args.month - 1) here),
       subst (λ xs. length xs ≤ 12) end (rest_few (c.args.month - 1) c.in-Some.found.rents twelve),
     )
 

@@ -1,4 +1,4 @@
-use Rattle.std.proofs.Common.{ℕ, ◌≤◌, sym, ap, ◌∙◌, subst}
+use Rattle.std.proofs.Common.{ℕ, ◌≤◌, sym, ap, subst}
 use Rattle.rules.specs.declared.rows.Zone.{Zone}
 use Rattle.rules.specs.Rows.{no_zone}
 use Rattle.rules.proofs.Changes.{found}
