@@ -1,8 +1,7 @@
 -- What a book's questions rest on.
-use Rattle.std.proofs.Common.{◌≡◌, ℕ, ◌-◌, ◌≤◌, ltb, List, get_or, ℤ, pos, Ok, Result, sym, refl, ap, ◌∙◌, ap₂, arith}
+use Rattle.std.proofs.Common.{◌≡◌, ℕ, ◌-◌, ◌≤◌, ltb, List, get_or, ℤ, pos, Ok, Result, sym, ap, ◌∙◌, ap₂, arith}
 use mathlib.Core.Logic.{∥∥₁_elim, ∥∥₁_map}
 use native.Mathlib.Bridge.{le_prop}
-use lib.IntN.{ℤ_set}
 use Rattle.std.proofs.lemmas.Bool.{or_parts, ltb-false}
 use Rattle.payments.specs.Settles.{Settles}
 use Rattle.payments.proofs.Deducted.{held_is}

@@ -14,6 +14,10 @@ use Rattle.rules.proofs.Entered.{Enters, opened_entered, zone_entered, resource_
 use Rattle.rules.proofs.Steps.{opened_kept, zone_kept, resource_kept, load_kept, bilateral_then, auction_then, begin_kept}
 use Rattle.book.specs.Holds.{ledger_of, Held}
 
+-- what a book keeps has what every ledger of a run keeps
+pub kept_of : (l : Ledger) → ∥ Held l ∥₁ → ∥ Kept l ∥₁
+kept_of l h = ∥∥₁_map {B = Kept l} h (λ k. k.kept)
+
 pub keeps_opening : (year peak : ℕ) (s : Standing) (x y : Unit {0}) → s ≡ no_entries → year_test year ≡ Ok x → peak_test peak ≡ Ok y → ∥ Held (ledger_of year peak 0 SetUp s) ∥₁
 keeps_opening year peak s x y none e f =
     subst (λ (s : Standing). ∥ Held (ledger_of year peak 0 SetUp s) ∥₁) (sym none)

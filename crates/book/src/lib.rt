@@ -1,4 +1,6 @@
 // The capacity book: what it holds, its tickets, and the calls that change it.
+#![tactic(auto)]
+
 mod state;
 mod ticket;
 

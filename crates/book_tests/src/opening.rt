@@ -49,7 +49,7 @@ fn tickets(rt: HostRuntime) -> Result<(), Fail> {
         Ok(_) => {}
         Err(_) => return Err(Fail::new("June was refused")),
     }
-    // set_up is over, which is tested before anything else
+    // set-up is over, which is tested before anything else
     assert_eq!(rt; entered(book.zone(&second, 20001, &[0; 12])), 114);
     assert_eq!(rt; entered(book.resource(&second, 9, b'X', 0, 0)), 114);
     assert_eq!(rt; entered(book.load(&second, 9, 0)), 114);

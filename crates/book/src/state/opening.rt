@@ -45,6 +45,7 @@ impl Book {
     }
 
     // Opens the book for the period that begins in June of `year`. What stood in it is gone.
+    #[tactic(auto, using(crate::proofs::Keeps::keeps_opening, crate::proofs::Keeps::kept_of))]
     pub fn open(&mut self, year: u64, peak: u64) -> Result<SetupTicket, Refusal>
         ensures { (result, view self.new) ≡ opening setup_ticket (open_call (view self.old) year peak) }
     {

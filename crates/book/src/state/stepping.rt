@@ -1,4 +1,4 @@
-// The step from set_up to June.
+// The step from set-up to June.
 ghost use Rattle.std.specs.Prelude.{◌≡◌};
 ghost use Rattle.rules.specs.Calls.{begin_call, spending};
 ghost use Rattle.book.specs.View.{view, month_ticket};

@@ -5,5 +5,5 @@ use Rattle.book.proofs.state.Book.position.Goals as goal
 
 pub returns : goal.returns
 returns c =
-    position_asked (view c.args.self.now) c.args.resource c.args.month c.in-ok-found.found c.in-ok-test-month.field-0 c.args.self.now.held
-    (sym c.in-ok-found.ensures.same) (sym c.test-month.ensures ∙ c.in-ok-test-month.was)
+    position_asked (view c.args.self.now) c.args.resource c.args.month c.in_ok-found.found c.in_ok-test_month.field-0 c.args.self.now.held
+    (sym c.in_ok-found.ensures.same) (sym c.test_month.ensures ∙ c.in_ok-test_month.was)
