@@ -1,4 +1,6 @@
 // The lines that the program june prints, each ended by LF, written into the caller's buffer.
-mod lines;
+#![tactic(auto)]
 
-pub use lines::{refused_line, resource_line};
+mod printing;
+
+pub use printing::{refused_line, resource_line};

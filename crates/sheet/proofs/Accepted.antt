@@ -1,7 +1,7 @@
 -- A text is accepted just where it is the sheet of a ledger. Assumes nothing.
 use Rattle.std.proofs.Common.{◌≡◌, ℕ, ◌^◌, ◌<◌, List, [], ◌∷◌, ◌++◌, map, length, Ok, Err, Result, sym, refl, ap, ◌∙◌, subst, append_assoc, append-nil, arith}
 use lib.ListN.{length-map}
-use Rattle.std.specs.List.{AllByRecursion as All}
+use Rattle.std.specs.List.{AllByRecursion}
 use Rattle.rules.specs.declared.entry.Entry.{Entry}
 use Rattle.rules.specs.declared.rows.Zone.{Zone}
 use Rattle.rules.specs.declared.rows.Resource.{Resource}
@@ -34,15 +34,15 @@ use Rattle.sheet.proofs.Grows.{Twelve, all_taken}
 use Rattle.sheet.proofs.Sections.{at, of_book_ok, section_forth, section_back}
 
 -- the entries of a section are that section's, and have their text
-zones_in : (zs : List Zone) → All (λ e. section_of e ≡ Z) (map zone_entry zs)
+zones_in : (zs : List Zone) → AllByRecursion (λ e. section_of e ≡ Z) (map zone_entry zs)
 zones_in [] = tt
 zones_in (z ∷ zs) = (refl, zones_in zs)
 
-resources_in : (rs : List Resource) → All (λ e. section_of e ≡ R) (map resource_entry rs)
+resources_in : (rs : List Resource) → AllByRecursion (λ e. section_of e ≡ R) (map resource_entry rs)
 resources_in [] = tt
 resources_in (r ∷ rs) = (refl, resources_in rs)
 
-loads_in : (ks : List Load) → All (λ e. section_of e ≡ L) (map load_entry ks)
+loads_in : (ks : List Load) → AllByRecursion (λ e. section_of e ≡ L) (map load_entry ks)
 loads_in [] = tt
 loads_in (k ∷ ks) = (refl, loads_in ks)
 
@@ -50,23 +50,23 @@ trade_in : (x : Trade) → section_of (trade_entry x) ≡ T
 trade_in (trade.Bilateral s b f e q p) = refl
 trade_in (trade.Auction r f e q p) = refl
 
-trades_in : (ts : List Trade) → All (λ e. section_of e ≡ T) (map trade_entry ts)
+trades_in : (ts : List Trade) → AllByRecursion (λ e. section_of e ≡ T) (map trade_entry ts)
 trades_in [] = tt
 trades_in (x ∷ ts) = (trade_in x, trades_in ts)
 
-zones_twelve : (zs : List Zone) → All (λ z. length z.rents ≡ 12) zs → All Twelve (map zone_entry zs)
+zones_twelve : (zs : List Zone) → AllByRecursion (λ z. length z.rents ≡ 12) zs → AllByRecursion Twelve (map zone_entry zs)
 zones_twelve [] h = tt
 zones_twelve (z ∷ zs) h = (h.0, zones_twelve zs h.1)
 
-twelve_zones : (zs : List Zone) → All (Fits Z) (map zone_entry zs) → All (λ z. length z.rents ≡ 12) zs
+twelve_zones : (zs : List Zone) → AllByRecursion (Fits Z) (map zone_entry zs) → AllByRecursion (λ z. length z.rents ≡ 12) zs
 twelve_zones [] h = tt
 twelve_zones (z ∷ zs) h = (h.0.0.1.0, twelve_zones zs h.1)
 
-resources_twelve : (rs : List Resource) → All Twelve (map resource_entry rs)
+resources_twelve : (rs : List Resource) → AllByRecursion Twelve (map resource_entry rs)
 resources_twelve [] = tt
 resources_twelve (r ∷ rs) = (tt, resources_twelve rs)
 
-loads_twelve : (ks : List Load) → All Twelve (map load_entry ks)
+loads_twelve : (ks : List Load) → AllByRecursion Twelve (map load_entry ks)
 loads_twelve [] = tt
 loads_twelve (k ∷ ks) = (tt, loads_twelve ks)
 
@@ -74,15 +74,15 @@ trade_twelve : (x : Trade) → Twelve (trade_entry x)
 trade_twelve (trade.Bilateral s b f e q p) = tt
 trade_twelve (trade.Auction r f e q p) = tt
 
-trades_twelve : (ts : List Trade) → All Twelve (map trade_entry ts)
+trades_twelve : (ts : List Trade) → AllByRecursion Twelve (map trade_entry ts)
 trades_twelve [] = tt
 trades_twelve (x ∷ ts) = (trade_twelve x, trades_twelve ts)
 
-fit_all : (section : Section) (es : List Entry) → All good es → All (λ e. section_of e ≡ section) es → All (Fits section) es
+fit_all : (section : Section) (es : List Entry) → AllByRecursion good es → AllByRecursion (λ e. section_of e ≡ section) es → AllByRecursion (Fits section) es
 fit_all section [] g s = tt
 fit_all section (e ∷ es) g s = ((g.0, s.0), fit_all section es g.1 s.1)
 
-in_all : (section : Section) (es : List Entry) → All (Fits section) es → All (λ e. section_of e ≡ section) es
+in_all : (section : Section) (es : List Entry) → AllByRecursion (Fits section) es → AllByRecursion (λ e. section_of e ≡ section) es
 in_all section [] g = tt
 in_all section (e ∷ es) g = (g.0.1, in_all section es g.1)
 
@@ -102,7 +102,7 @@ entered_go v rest x h = ap (λ u. entered u rest) h
 at_zero : {n : ℕ} → n ≡ 0 → (es : List Entry) (l m : Ledger) → enter_all n es l ≡ Ok m → enter_all 0 es l ≡ Ok m
 at_zero e es l m h = ap (λ k. enter_all k es l) (sym e) ∙ h
 
--- the sheet of a ledger is read, and gives that ledger with the ticket of its set_up
+-- the sheet of a ledger is read, and gives that ledger with the ticket of its set-up
 pub sheet_forth : (d : Ledger) (text : List ℕ) → SheetOf d text → read_all (at 0 text, empty) ≡ Ok (setup_ticket 0, d)
 unfolding made_of text_of
 sheet_forth d text s =
@@ -235,7 +235,7 @@ sheet_back t d text h =
     record {
       stands = record {
         made = (λ i. made_of (grown.year i) (grown.peak i) (ez i) (er i) (ek i) (ex i)) ∙ made;
-        twelve = twelve_zones d.standing.zones (subst (All (Fits Z)) (sym ez) bz.fit);
+        twelve = twelve_zones d.standing.zones (subst (AllByRecursion (Fits Z)) (sym ez) bz.fit);
       };
       same = same ∙ (λ i. text_of (sym grown.year i) (sym grown.peak i) (sym ez i) (sym er i) (sym ek i) (sym ex i));
     }
@@ -264,7 +264,7 @@ answered_ok (Err e) t l h = let a : ◌≡◌ {A = Result SetupTicket SheetFault
 written_is_read : (l : Ledger) → Deposit l → read_sheet (sheet_text l) ≡ (Ok (setup_ticket 0), l)
 written_is_read l s = ap (λ v. answered (of_line v)) (sheet_forth l (sheet_text l) (record { stands = s; same = refl }))
 
--- the set_up that a ledger's standing entries make again has that ledger's text
+-- the set-up that a ledger's standing entries make again has that ledger's text
 again : (l : Ledger) → remade l ≡ Ok (fresh l) → TwelveRents l → Deposit (fresh l)
 again l made twelve = record { made = made; twelve = twelve }
 

@@ -1,6 +1,6 @@
 -- The entries that the book takes are the last of their section, and each has its text. Assumes nothing.
 use Rattle.std.proofs.Common.{◌≡◌, ℕ, List, [], ◌∷◌, ◌++◌, length, Ok, subst}
-use Rattle.std.specs.List.{AllByRecursion as All}
+use Rattle.std.specs.List.{AllByRecursion}
 use Rattle.rules.specs.declared.entry.Entry.{Entry}
 use Rattle.rules.specs.declared.entry.Entry.TheVariants.{Zone, Resource, Load, Bilateral, Auction}
 use Rattle.rules.specs.Ledger.{Ledger}
@@ -56,9 +56,9 @@ grow_then T es fs l m n g h = grown_then [] [] [] es [] [] [] fs l m n g h
 pub record AllTaken (section : Section) (es : List Entry) (l m : Ledger) : Type 0 where
   pub grow : Grow section es l m
   pub few : Few l → Few m
-  pub fits : Few l → All Twelve es → All good es
+  pub fits : Few l → AllByRecursion Twelve es → AllByRecursion good es
 
-pub all_taken : (ticket : ℕ) (section : Section) (es : List Entry) (l m : Ledger) → All (λ e. section_of e ≡ section) es → enter_all ticket es l ≡ Ok m → AllTaken section es l m
+pub all_taken : (ticket : ℕ) (section : Section) (es : List Entry) (l m : Ledger) → AllByRecursion (λ e. section_of e ≡ section) es → enter_all ticket es l ≡ Ok m → AllTaken section es l m
 unfolding enter_all
 all_taken ticket section [] l m s h = subst (AllTaken section [] l) (same_ok l m h) (record { grow = grow_none section l; few = λ f. f; fits = λ f w. tt })
 all_taken ticket section (e ∷ es) l m s h =

@@ -1,6 +1,6 @@
 -- A section's text is read just where it is the text of entries that the book takes. Assumes nothing.
 use Rattle.std.proofs.Common.{◌≡◌, ℕ, zero, suc, ◌+◌, ◌^◌, ◌<◌, List, [], ◌∷◌, ◌++◌, length, Ok, Err, Result, sym, refl, ap, ◌∙◌, append_assoc, arith}
-use Rattle.std.specs.List.{AllByRecursion as All}
+use Rattle.std.specs.List.{AllByRecursion}
 use Rattle.rules.specs.declared.refusal.Refusal.{Refusal}
 use Rattle.book.specs.declared.ticket.SetupTicket.{SetupTicket}
 use Rattle.rules.specs.Ledger.{Ledger}
@@ -29,7 +29,7 @@ of_book_ok s (Ok y) x e = let same : y ≡ x = cc in ap Ok same
 of_book_ok s (Err d) x e = let z : ◌≡◌ {A = ℕ} 0 1 = cc in absurd (omega arith)
 
 module _ (t : SetupTicket) (section : Section) where
-  pub steps_forth : (n : ℕ) (l m : Ledger) (es : List Entry) (r : List ℕ) → All (Fits section) es → enter_all t.month es l ≡ Ok m → (k : ℕ) × (steps t section (length es) (at n (lines es ++ r), l) ≡ Ok (at k r, m))
+  pub steps_forth : (n : ℕ) (l m : Ledger) (es : List Entry) (r : List ℕ) → AllByRecursion (Fits section) es → enter_all t.month es l ≡ Ok m → (k : ℕ) × (steps t section (length es) (at n (lines es ++ r), l) ≡ Ok (at k r, m))
   unfolding steps enter_all
   steps_forth n l m [] r g h = let same : l ≡ m = cc in (n, ap (λ x. Ok (at n r, x)) same)
   steps_forth n l m (e ∷ es) r g h =
@@ -44,7 +44,7 @@ module _ (t : SetupTicket) (section : Section) where
   pub record Took (k : ℕ) (s : List ℕ) (l m : Ledger) (r : List ℕ) : Type 0 where
     pub list : List Entry
     pub long : length list ≡ k
-    pub fit : All (Fits section) list
+    pub fit : AllByRecursion (Fits section) list
     pub text : s ≡ lines list ++ r
     pub taken : enter_all t.month list l ≡ Ok m
 
@@ -69,7 +69,7 @@ module _ (t : SetupTicket) (section : Section) where
         taken = ap (λ x. entered x (enter_all t.month rest.list)) (of_book_ok (spot_at section p) (enter t.month e l) w.0 w.1) ∙ rest.taken;
       }
 
-  pub section_forth : (n : ℕ) (l m : Ledger) (es : List Entry) (r : List ℕ) → All (Fits section) es → length es < 10 ^ 11 → enter_all t.month es l ≡ Ok m → (k : ℕ) × (read_section t section (at n (section_text section es ++ r), l) ≡ Ok (at k r, m))
+  pub section_forth : (n : ℕ) (l m : Ledger) (es : List Entry) (r : List ℕ) → AllByRecursion (Fits section) es → length es < 10 ^ 11 → enter_all t.month es l ≡ Ok m → (k : ℕ) × (read_section t section (at n (section_text section es ++ r), l) ≡ Ok (at k r, m))
   unfolding section_text
   section_forth n l m es r g few h =
       let c = (count (section_letter section)).text (tt, length es) in
@@ -80,7 +80,7 @@ module _ (t : SetupTicket) (section : Section) where
 
   pub record Read (s : List ℕ) (l m : Ledger) (r : List ℕ) : Type 0 where
     pub list : List Entry
-    pub fit : All (Fits section) list
+    pub fit : AllByRecursion (Fits section) list
     pub text : s ≡ section_text section list ++ r
     pub taken : enter_all t.month list l ≡ Ok m
 

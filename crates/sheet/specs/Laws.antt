@@ -7,9 +7,9 @@ use Rattle.book.specs.View.{setup_ticket}
 use Rattle.sheet.specs.Reading.{read_sheet}
 use Rattle.sheet.specs.Sheets.{Deposit, SheetOf, TwelveRents, sheet_text}
 
--- Sheets and ledgers fix each other. A deposit's text is read back as that ledger, with the ticket of its set_up; a text
+-- Sheets and ledgers fix each other. A deposit's text is read back as that ledger, with the ticket of its set-up; a text
 -- that is read is the sheet of the ledger that it gives; and no text is the sheet of two ledgers.
--- A ledger of any month is read back as the set_up with the same standing entries, if these make it again; and two such
+-- A ledger of any month is read back as the set-up with the same standing entries, if these make it again; and two such
 -- ledgers with one text have the same standing entries.
 pub record SheetsStand : Type 0 where
   pub written_is_read : (l : Ledger) → Deposit l → read_sheet (sheet_text l) ≡ (Ok (setup_ticket 0), l)

@@ -1,6 +1,6 @@
 -- The text of a ledger's standing entries, and the ledgers that these entries make. Assumes nothing.
 use Rattle.std.specs.Prelude.{◌≡◌, ℕ, List, [], ◌∷◌, ◌++◌, map, length, Ok}
-use Rattle.std.specs.List.{flat_map, AllByRecursion as All}
+use Rattle.std.specs.List.{flat_map, AllByRecursion}
 use Rattle.rules.specs.declared.entry.Entry.{Entry}
 use Rattle.rules.specs.Ledger.{Ledger}
 use Rattle.rules.specs.Replays.{zone_entry, resource_entry, load_entry, trade_entry, remade}
@@ -36,9 +36,9 @@ sheet_text l = text_of l.year l.peak (entries Z l) (entries R l) (entries L l) (
 
 -- every zone has its twelve rents
 abbrev pub TwelveRents : Ledger → Type 0
-TwelveRents l = All (λ z. length z.rents ≡ 12) l.standing.zones
+TwelveRents l = AllByRecursion (λ z. length z.rents ≡ 12) l.standing.zones
 
--- what can be deposited on a sheet: a set_up that is what its own standing entries make
+-- what can be deposited on a sheet: a set-up that is what its own standing entries make
 pub record Deposit (l : Ledger) : Type 0 where
   pub made : remade l ≡ Ok l
   pub twelve : TwelveRents l

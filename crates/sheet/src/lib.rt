@@ -1,4 +1,6 @@
 // The standing sheet of a book: reading it, and what holds of every sheet.
+#![tactic(auto)]
+
 mod laws;
 mod reading;
 mod section;

@@ -1,6 +1,8 @@
 // Writing the standing sheet of a book into the caller's buffer.
-mod entries;
-mod lines;
-mod sheet;
+#![tactic(auto)]
 
-pub use sheet::{sheet_len, write};
+mod entries;
+mod putting;
+mod writing;
+
+pub use writing::{sheet_len, write};

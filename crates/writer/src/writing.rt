@@ -8,7 +8,7 @@ ghost use Rattle.book.specs.View.{view};
 ghost use Rattle.lines.specs.Kinds.{opening};
 ghost use Rattle.sheet.specs.Sheets.{line, section_text, sheet_text};
 
-use crate::lines::{put_opening, put_section};
+use crate::putting::{put_opening, put_section};
 use book::Book;
 use rules::refusal::Refusal;
 use standing::Standing;

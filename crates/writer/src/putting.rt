@@ -95,7 +95,7 @@ fn put_line(out: &mut [u8], at: usize, entry: Entry) -> usize
 
 // The lines of a section's entries.
 fn put_lines<E: Stands>(out: &mut [u8], at: usize, rows: &[E]) -> usize
-    ensures { Puts at (lines (map stands rows.now)) out.old out.new result }
+    ensures { Puts at (lines (map E.stands rows.now)) out.old out.new result }
 {
     let mut end = at;
     for row in rows {
@@ -106,7 +106,7 @@ fn put_lines<E: Stands>(out: &mut [u8], at: usize, rows: &[E]) -> usize
 
 // A section, after the line with its letter and count.
 pub fn put_section<E: Stands>(out: &mut [u8], at: usize, section: Section, rows: &[E]) -> usize
-    ensures { Puts at (section_text section (map stands rows.now)) out.old out.new result }
+    ensures { Puts at (section_text section (map E.stands rows.now)) out.old out.new result }
 {
     let letter = put_byte(out, at, section_letter(section));
     let count = put_later(out, letter, rows.len() as u64);
