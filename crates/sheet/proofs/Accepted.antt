@@ -12,6 +12,7 @@ use Rattle.rules.specs.Calls.{open_call}
 use Rattle.rules.specs.Chains.{then as entered}
 use Rattle.rules.specs.Ledger.{Ledger, opened}
 use Rattle.rules.specs.Replays.{zone_entry, resource_entry, load_entry, trade_entry, taken, enter_all, empty, made_of, remade, fresh}
+use Rattle.rules.proofs.Called.{remade_called}
 use Rattle.rules.proofs.Growing.{Grown, Few, same_ok, then_ok as entered-ok, grown_then, opening_taken, few_opened}
 use Rattle.book.specs.declared.ticket.SetupTicket.{SetupTicket}
 use Rattle.book.specs.View.{setup_ticket}
@@ -268,10 +269,14 @@ written_is_read l s = ap (λ v. answered (of_line v)) (sheet_forth l (sheet_text
 again : (l : Ledger) → remade l ≡ Ok (fresh l) → TwelveRents l → Deposit (fresh l)
 again l made twelve = record { made = made; twelve = twelve }
 
+read_is_written : (text : List ℕ) (t : SetupTicket) (l : Ledger) → read_sheet text ≡ (Ok t, l) → SheetOf l text
+read_is_written text t l h = sheet_back t l text (of_line_ok (read_all (at 0 text, empty)) (t, l) (answered_ok (of_line (read_all (at 0 text, empty))) t l h))
+
 pub sheets_stand_lem : SheetsStand
 sheets_stand_lem = record {
   written_is_read = written_is_read;
-  read_is_written = λ text t l h. sheet_back t l text (of_line_ok (read_all (at 0 text, empty)) (t, l) (answered_ok (of_line (read_all (at 0 text, empty))) t l h));
+  read_is_written = read_is_written;
+  read_is_called = λ text t l h. remade_called l l (read_is_written text t l h).stands.made;
   one_ledger = one_ledger;
   entries_are_read = λ l made twelve. written_is_read (fresh l) (again l made twelve);
   one_text = λ k l mk ml tk tl e. one_ledger (fresh k) (fresh l) (sheet_text k) (record { stands = again k mk tk; same = refl }) (record { stands = again l ml tl; same = e });
