@@ -11,6 +11,8 @@ impl<'a> Reader<'a> {
     pub fn new(text: &'a [u8], section: Section) -> Reader<'a>
         ensures row { result.row.now ≡ [] }
         ensures place { stand result ≡ record { line = 0; rest = text.now } }
+        ensures spot { result.spot ≡ record { section = section; line = 0 } }
+        ensures field { result.place ≡ 0 }
     {
         Reader {
             row: &text[0..0],
