@@ -4,7 +4,7 @@ use mathlib.Core.Logic.{∥∥₁_elim, ∥∥₁_map}
 use native.Mathlib.Bridge.{le_prop}
 use Rattle.std.proofs.lemmas.Bool.{or_parts, ltb-false}
 use Rattle.payments.specs.Settles.{Settles}
-use Rattle.payments.proofs.Deducted.{held_is}
+use Rattle.payments.proofs.Entries.{held_is}
 use Rattle.rules.specs.declared.answers.Terms.{Terms}
 use Rattle.rules.specs.declared.refusal.Refusal.{Refusal}
 use Rattle.rules.specs.declared.rows.Resource.{Resource}
@@ -14,7 +14,7 @@ use Rattle.rules.specs.Begun.{Begun}
 use Rattle.rules.specs.Ledger.{Ledger, resource_of}
 use Rattle.rules.specs.Payments.{payment}
 use Rattle.rules.specs.Positions.{position}
-use Rattle.rules.specs.Questions.{passing, position_question, terms, terms_question}
+use Rattle.rules.specs.Questions.{passing, position_question, terms}
 use Rattle.rules.specs.Rents.{deduction}
 use Rattle.rules.specs.Runs.{Call, after_all}
 use Rattle.rules.specs.Sums.{Known}
@@ -41,7 +41,7 @@ pub position_asked : (l : Ledger) (n m : ℕ) (x : Resource) (u : Unit {0}) → 
     → Ok (pos (get_or x.row (m - 1) 0)) ≡ position_question l n m
 position_asked l n m x u h e f =
     let p = or_parts (ltb m 1) (ltb 12 m) (passed _ _ u f) in
-    let held = held_is l.standing (settles l h) n m x (known l n x e) (ltb-false m 1 p.0) (ltb-false 12 m p.1) (stands l n x e) in
+    let held = held_is l.standing (settles l h) n x (stands l n x e) m (known l n x e) (ltb-false m 1 p.0) (ltb-false 12 m p.1) in
     ap Ok held ∙ sym (ap₂ (λ (a : Result Resource Refusal) (b : Result (Unit {0}) Refusal). passing a (passing b (Ok (position l.standing n m)))) e f)
 
 -- ---- the month in hand
@@ -58,15 +58,8 @@ module _ (l : Ledger) (h : ∥ Held l ∥₁) (ticket : ℕ) (u : Unit {0}) (e :
   begun : Begun l l.month
   begun = record { low = month_low; high = omega arith; set_up = not_set_up l.stage (stage_of l Running ticket u e) }
 
-  module _ (n : ℕ) (x : Resource) (f : resource_test l.standing n ≡ Ok x) (t : Terms)
-      (p : t.payment ≡ payment l.standing n l.month) (d : t.deduction ≡ deduction l.standing l.rents n l.month) where
-    pub terms_asked : Ok t ≡ terms_question l ticket n
-    terms_asked =
-        ap₂ (λ (y z : ℤ). Ok (record { payment = y; deduction = z })) p d
-        ∙ sym (ap₂ (λ (a : Result (Unit {0}) Refusal) (b : Result Resource Refusal). passing a (passing b (Ok (terms l n l.month)))) e f)
-
-    -- whatever is called later
-    pub terms_stay : (calls : List Call) → terms (after_all l calls) n l.month ≡ t
-    terms_stay calls =
-        let fixed = begun_months_fixed_lem l l.month calls begun in
-        ap₂ (λ (y z : ℤ). record { payment = y; deduction = z }) (fixed.paid n ∙ sym p) (fixed.deducted n ∙ sym d)
+  -- whatever is called later
+  pub terms_stay : (n : ℕ) (t : Terms) → t.payment ≡ payment l.standing n l.month → t.deduction ≡ deduction l.standing l.rents n l.month → (calls : List Call) → terms (after_all l calls) n l.month ≡ t
+  terms_stay n t p d calls =
+      let fixed = begun_months_fixed_lem l l.month calls begun in
+      ap₂ (λ (y z : ℤ). record { payment = y; deduction = z }) (fixed.paid n ∙ sym p) (fixed.deducted n ∙ sym d)

@@ -2,7 +2,8 @@
 use Rattle.std.proofs.Common.{◌≡◌, ℕ, List, length, ℤ, Ok, Result, sym, refl, subst}
 use mathlib.Core.Logic.{∥∥₁_map}
 use Rattle.rules.specs.declared.refusal.Refusal.{Refusal}
-use Rattle.rules.specs.declared.rows.Stage.{Stage}
+use Rattle.rules.specs.declared.rows.Auction.{Auction}
+use Rattle.rules.specs.declared.rows.Bilateral.{Bilateral}
 use Rattle.rules.specs.declared.rows.Stage.TheVariants.{SetUp, Running}
 use Rattle.rules.specs.Calls.{Answered, into}
 use Rattle.rules.specs.Chains.{after}
@@ -13,10 +14,6 @@ use Rattle.rules.specs.Tests.{year_test, peak_test, ticket_test}
 use Rattle.rules.proofs.Entered.{Enters, opened_entered, zone_entered, resource_entered, load_entered, bilateral_entered, auction_entered, zone_twelve, twelve_stays}
 use Rattle.rules.proofs.Steps.{opened_kept, zone_kept, resource_kept, load_kept, bilateral_then, auction_then, begin_kept}
 use Rattle.book.specs.Holds.{ledger_of, Held}
-
--- what a book keeps has what every ledger of a run keeps
-pub kept_of : (l : Ledger) → ∥ Held l ∥₁ → ∥ Kept l ∥₁
-kept_of l h = ∥∥₁_map {B = Kept l} h (λ k. k.kept)
 
 pub keeps_opening : (year peak : ℕ) (s : Standing) (x y : Unit {0}) → s ≡ no_entries → year_test year ≡ Ok x → peak_test peak ≡ Ok y → ∥ Held (ledger_of year peak 0 SetUp s) ∥₁
 keeps_opening year peak s x y none e f =
@@ -47,24 +44,22 @@ module _ (l : Ledger) (r : Result ℕ Refusal) (s : Standing) where
   keeps_load ticket z obligation x e q h = ∥∥₁_map {B = Held (with_standing l s)} h (λ k. left l (ticket_test l SetUp ticket) x (enter_load l.standing z obligation) r s e q
       (same_zones l _ k (load_kept l k.kept ticket z obligation) (load_entered l k.entered ticket z obligation)))
 
-  pub keeps_bilateral : (a b first last q price : ℕ) → (r, s) ≡ book_bilateral l.standing l.month a b first last q price → ∥ Held l ∥₁ → ∥ Held (with_standing l s) ∥₁
-  keeps_bilateral a b first last q price e h = ∥∥₁_map {B = Held (with_standing l s)} h (λ k. left l (Ok tt) tt (book_bilateral l.standing l.month a b first last q price) r s refl e
-      (same_zones l _ k (bilateral_then l k.kept a b first last q price) (bilateral_entered l k.entered a b first last q price)))
+  pub keeps_bilateral : (t : Bilateral) → (r, s) ≡ book_bilateral l.standing l.month t → ∥ Held l ∥₁ → ∥ Held (with_standing l s) ∥₁
+  keeps_bilateral t e h = ∥∥₁_map {B = Held (with_standing l s)} h (λ k. left l (Ok tt) tt (book_bilateral l.standing l.month t) r s refl e
+      (same_zones l _ k (bilateral_then l k.kept t) (bilateral_entered l k.entered t)))
 
-  pub keeps_auction : (y first last : ℕ) (q : ℤ) (price : ℕ) → (r, s) ≡ book_auction l.standing l.month y first last q price → ∥ Held l ∥₁ → ∥ Held (with_standing l s) ∥₁
-  keeps_auction y first last q price e h = ∥∥₁_map {B = Held (with_standing l s)} h (λ k. left l (Ok tt) tt (book_auction l.standing l.month y first last q price) r s refl e
-      (same_zones l _ k (auction_then l k.kept y first last q price) (auction_entered l k.entered y first last q price)))
+  pub keeps_auction : (t : Auction) → (r, s) ≡ book_auction l.standing l.month t → ∥ Held l ∥₁ → ∥ Held (with_standing l s) ∥₁
+  keeps_auction t e h = ∥∥₁_map {B = Held (with_standing l s)} h (λ k. left l (Ok tt) tt (book_auction l.standing l.month t) r s refl e
+      (same_zones l _ k (auction_then l k.kept t) (auction_entered l k.entered t)))
 
 begins : (l : Ledger) → Answered ℕ Refusal
 begins l = (Ok 1, at_stage l Running 1)
 
-pub keeps_begin : (l : Ledger) (ticket : ℕ) (x : Unit {0}) (at : Stage × ℕ) → at ≡ (Running, 1) → ticket_test l SetUp ticket ≡ Ok x → ∥ Held l ∥₁ → ∥ Held (at_stage l at.0 at.1) ∥₁
+pub keeps_begin : (l : Ledger) (ticket : ℕ) (x : Unit {0}) → ticket_test l SetUp ticket ≡ Ok x → ∥ Held l ∥₁ → ∥ Held (at_stage l Running 1) ∥₁
 unfolding begins
-keeps_begin l ticket x at june e h =
-    subst (λ (p : Stage × ℕ). ∥ Held (at_stage l p.0 p.1) ∥₁) (sym june)
-    (∥∥₁_map {B = Held (at_stage l Running 1)} h (λ k.
+keeps_begin l ticket x e h = ∥∥₁_map {B = Held (at_stage l Running 1)} h (λ k.
     record {
       kept = subst (λ (t : Result (Unit {0}) Refusal). Kept (after l t (λ _. begins l)).1) e (begin_kept l k.kept ticket);
       entered = k.entered;
       twelve = k.twelve;
-    }))
+    })

@@ -2,7 +2,7 @@
 use Rattle.std.specs.Prelude.{ℕ, Ok, Err}
 use Rattle.rules.specs.declared.refusal.Refusal.{Refusal}
 use Rattle.rules.specs.Calls.{Answered}
-use Rattle.rules.specs.Ledger.{Ledger, opened}
+use Rattle.rules.specs.Ledger.{Ledger}
 use Rattle.standing.specs.View.{entries_of}
 use Rattle.book.specs.Holds.{ledger_of}
 use Rattle.book.specs.declared.state.Book.{Book}
@@ -11,9 +11,6 @@ use Rattle.book.specs.declared.ticket.MonthTicket.{MonthTicket}
 
 abbrev pub view : Book → Ledger
 view b = ledger_of b.year b.peak b.month b.stage (entries_of b.standing)
-
-abbrev pub empty : Ledger
-empty = opened 2010 1
 
 -- the tickets of a month
 abbrev pub setup_ticket : ℕ → SetupTicket

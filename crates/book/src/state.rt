@@ -1,5 +1,4 @@
 // What a book holds.
-ghost use Rattle.rules.specs.Kept.{Kept};
 ghost use Rattle.standing.specs.View.{entries_of};
 ghost use Rattle.book.specs.Holds.{ledger_of, Held};
 
@@ -14,7 +13,7 @@ mod stepping;
 mod trading;
 
 // It keeps, whatever is called, what every ledger of a run keeps: limits, and positions that are those of the trades; and
-// entries that a fresh book would take again.
+// entries that a fresh book would take again. The month stands beside the stage, and not in it: trades test it in each stage.
 #[derive(Drop)]
 pub struct Book {
     year: u64,
@@ -22,6 +21,5 @@ pub struct Book {
     month: u64,
     stage: Stage,
     standing: Standing,
-    ghost kept: { ∥ Kept (ledger_of year peak month stage (entries_of standing)) ∥₁ },
     ghost held: { ∥ Held (ledger_of year peak month stage (entries_of standing)) ∥₁ },
 }

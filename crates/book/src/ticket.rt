@@ -1,4 +1,5 @@
-// A step spends the ticket of the step before. Only the book makes tickets.
+// A step spends the ticket of the step before. Only the book makes tickets. They are two types of one field: one type with
+// a parameter for the state would need two marker types and a phantom field, and name the tickets less plainly.
 
 // The book is being set up.
 #[derive(Drop)]

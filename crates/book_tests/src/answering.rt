@@ -1,33 +1,34 @@
+use crate::entering::{offer, zone};
+use crate::trading::{auction, bilateral};
 use book::{Book, MonthTicket};
 use rules::refusal::Refusal;
 use std::test::Fail;
 
 // A position, or 1,000,000 and the number of the refusal.
+// Told by numbers, so that the tests pin the number of each refusal too.
 fn held(answer: Result<u64, Refusal>) -> u64 {
-    match answer {
-        Ok(position) => position,
-        Err(refusal) => 1000000 + u64::from(refusal.number()),
-    }
+    answer.unwrap_or_else(|refusal| 1000000 + u64::from(refusal.number()))
 }
 
 // The payment and deduction of a resource, or the number of the refusal in place of the payment.
+// Told by numbers, so that the tests pin the number of each refusal too.
 fn terms(book: &Book, ticket: &MonthTicket, resource: u64) -> (i64, i64) {
-    match book.terms(ticket, resource) {
-        Ok(terms) => (terms.payment, terms.deduction),
-        Err(refusal) => (i64::from(refusal.number()), -1),
-    }
+    book.terms(ticket, resource).map_or_else(
+        |refusal| (i64::from(refusal.number()), -1),
+        |terms| (terms.payment, terms.deduction),
+    )
 }
 
 #[test]
 fn positions(rt: HostRuntime) -> Result<(), Fail> {
     let mut book = Book::new(rt.alloc())?;
     let ticket = book.open(2010, 26000)?;
-    book.zone(&ticket, 4500, &[0; 12])?;
-    book.resource(&ticket, 1, b'G', 10000, 0)?;
-    book.resource(&ticket, 1, b'P', 500, 0)?;
-    book.bilateral(1, 2, 2, 3, 100, 4000)?;
-    book.auction(2, 3, 12, -50, 0)?;
-    book.auction(2, 12, 12, 7, 0)?;
+    book.zone(&ticket, zone(4500, [0; 12]))?;
+    book.resource(&ticket, offer(1, b'G', 10000, 0))?;
+    book.resource(&ticket, offer(1, b'P', 500, 0))?;
+    book.bilateral(bilateral((1, 2), (2, 3), 100, 4000))?;
+    book.auction(auction(2, (3, 12), -50, 0))?;
+    book.auction(auction(2, (12, 12), 7, 0))?;
     let cases = [
         (1, 1, 10000),
         (1, 2, 9900),
@@ -54,21 +55,19 @@ fn positions(rt: HostRuntime) -> Result<(), Fail> {
 // June of a book with three zones at 4,500 mills: twelve rents of 1,000,000, twelve of 5,000,000, and twelve that sum to 1,211.
 fn june(book: &mut Book) -> Result<MonthTicket, Fail> {
     let ticket = book.open(2010, 26000)?;
-    book.zone(&ticket, 4500, &[1000000; 12])?;
-    book.zone(&ticket, 4500, &[5000000; 12])?;
-    book.zone(&ticket, 4500, &[0, 0, 0, 0, 0, 0, 0, 0, 0, 0, 0, 1211])?;
-    for zone in 1..4 {
-        book.resource(&ticket, zone, b'G', 10000, 0)?;
-        book.resource(&ticket, zone, b'S', 10000, 4000)?;
+    book.zone(&ticket, zone(4500, [1000000; 12]))?;
+    book.zone(&ticket, zone(4500, [5000000; 12]))?;
+    book.zone(&ticket, zone(4500, [0, 0, 0, 0, 0, 0, 0, 0, 0, 0, 0, 1211]))?;
+    for number in 1..4 {
+        book.resource(&ticket, offer(number, b'G', 10000, 0))?;
+        book.resource(&ticket, offer(number, b'S', 10000, 4000))?;
     }
-    book.bilateral(1, 2, 1, 1, 3000, 4000)?;
-    book.auction(4, 1, 3, -7000, 5000)?;
-    book.auction(5, 1, 1, 1, 20000)?;
-    book.bilateral(6, 5, 2, 2, 10000, 1)?;
-    match book.begin(ticket) {
-        Ok(ticket) => Ok(ticket),
-        Err(_) => Err(Fail::new("June was refused")),
-    }
+    book.bilateral(bilateral((1, 2), (1, 1), 3000, 4000))?;
+    book.auction(auction(4, (1, 3), -7000, 5000))?;
+    book.auction(auction(5, (1, 1), 1, 20000))?;
+    book.bilateral(bilateral((6, 5), (2, 2), 10000, 1))?;
+    book.begin(ticket)
+        .map_err(|_| Fail::new("June was refused"))
 }
 
 #[test]
@@ -95,7 +94,7 @@ fn terms_of_june(rt: HostRuntime) -> Result<(), Fail> {
         assert_eq!(rt; terms(&book, &ticket, resource), (payment, deduction));
     }
     // a trade of later months moves nothing of June
-    book.auction(1, 2, 12, 100000, 20000)?;
+    book.auction(auction(1, (2, 12), 100000, 20000))?;
     assert_eq!(rt; terms(&book, &ticket, 1), (33000000, 7000000));
     // the ticket is tested first
     let mut other = Book::new(rt.alloc())?;

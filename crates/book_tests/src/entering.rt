@@ -1,21 +1,41 @@
 use crate::opening::entered;
 use book::Book;
+use rules::entry::Offer;
+use rules::rows::{Load, Zone};
 use std::test::Fail;
+
+// What is entered, with its figures in the order of its line.
+pub fn zone(price: u64, rents: [u64; 12]) -> Zone {
+    Zone { price, rents }
+}
+
+pub fn offer(zone: u64, letter: u8, cleared: u64, supplied: u64) -> Offer {
+    Offer {
+        zone,
+        letter,
+        cleared,
+        supplied,
+    }
+}
+
+pub fn load(zone: u64, obligation: i64) -> Load {
+    Load { zone, obligation }
+}
 
 #[test]
 fn zones(rt: HostRuntime) -> Result<(), Fail> {
     let mut book = Book::new(rt.alloc())?;
     let ticket = book.open(2010, 26000)?;
     let mut high = [10000000000; 12];
-    assert_eq!(rt; entered(book.zone(&ticket, 20000, &high)), 1);
-    assert_eq!(rt; entered(book.zone(&ticket, 20001, &high)), 104);
+    assert_eq!(rt; entered(book.zone(&ticket, zone(20000, high))), 1);
+    assert_eq!(rt; entered(book.zone(&ticket, zone(20001, high))), 104);
     high[11] = 10000000001;
-    assert_eq!(rt; entered(book.zone(&ticket, 20000, &high)), 105);
-    assert_eq!(rt; entered(book.zone(&ticket, 20001, &high)), 104);
+    assert_eq!(rt; entered(book.zone(&ticket, zone(20000, high))), 105);
+    assert_eq!(rt; entered(book.zone(&ticket, zone(20001, high))), 104);
     for number in 2..9 {
-        assert_eq!(rt; entered(book.zone(&ticket, 0, &[0; 12])), number);
+        assert_eq!(rt; entered(book.zone(&ticket, zone(0, [0; 12]))), number);
     }
-    assert_eq!(rt; entered(book.zone(&ticket, 20001, &high)), 103);
+    assert_eq!(rt; entered(book.zone(&ticket, zone(20001, high))), 103);
     Ok(())
 }
 
@@ -23,8 +43,8 @@ fn zones(rt: HostRuntime) -> Result<(), Fail> {
 fn resources(rt: HostRuntime) -> Result<(), Fail> {
     let mut book = Book::new(rt.alloc())?;
     let ticket = book.open(2010, 26000)?;
-    assert_eq!(rt; entered(book.resource(&ticket, 1, b'G', 0, 0)), 106);
-    assert_eq!(rt; entered(book.zone(&ticket, 4500, &[0; 12])), 1);
+    assert_eq!(rt; entered(book.resource(&ticket, offer(1, b'G', 0, 0))), 106);
+    assert_eq!(rt; entered(book.zone(&ticket, zone(4500, [0; 12]))), 1);
     let cases = [
         (1, b'G', 200000, 200000, 1),
         (1, b'I', 1, 0, 2),
@@ -44,15 +64,18 @@ fn resources(rt: HostRuntime) -> Result<(), Fail> {
     ];
     for (zone, letter, cleared, supplied, answer) in cases {
         assert_eq!(rt;
-            entered(book.resource(&ticket, zone, letter, cleared, supplied)),
+            entered(book.resource(&ticket, offer(zone, letter, cleared, supplied))),
             answer
         );
     }
     for number in 6..65 {
-        assert_eq!(rt; entered(book.resource(&ticket, 1, b'G', 0, 0)), number);
+        assert_eq!(rt;
+            entered(book.resource(&ticket, offer(1, b'G', 0, 0))),
+            number
+        );
     }
-    assert_eq!(rt; entered(book.resource(&ticket, 1, b'X', 0, 0)), 107);
-    assert_eq!(rt; entered(book.resource(&ticket, 2, b'X', 0, 0)), 106);
+    assert_eq!(rt; entered(book.resource(&ticket, offer(1, b'X', 0, 0))), 107);
+    assert_eq!(rt; entered(book.resource(&ticket, offer(2, b'X', 0, 0))), 106);
     Ok(())
 }
 
@@ -60,7 +83,7 @@ fn resources(rt: HostRuntime) -> Result<(), Fail> {
 fn loads(rt: HostRuntime) -> Result<(), Fail> {
     let mut book = Book::new(rt.alloc())?;
     let ticket = book.open(2010, 26000)?;
-    assert_eq!(rt; entered(book.zone(&ticket, 4500, &[0; 12])), 1);
+    assert_eq!(rt; entered(book.zone(&ticket, zone(4500, [0; 12]))), 1);
     let cases = [
         (1, 200000, 1),
         (1, -200000, 2),
@@ -70,11 +93,11 @@ fn loads(rt: HostRuntime) -> Result<(), Fail> {
         (2, i64::MAX, 106),
     ];
     for (zone, obligation, answer) in cases {
-        assert_eq!(rt; entered(book.load(&ticket, zone, obligation)), answer);
+        assert_eq!(rt; entered(book.load(&ticket, load(zone, obligation))), answer);
     }
     for number in 3..33 {
-        assert_eq!(rt; entered(book.load(&ticket, 1, 0)), number);
+        assert_eq!(rt; entered(book.load(&ticket, load(1, 0))), number);
     }
-    assert_eq!(rt; entered(book.load(&ticket, 1, 200001)), 111);
+    assert_eq!(rt; entered(book.load(&ticket, load(1, 200001))), 111);
     Ok(())
 }

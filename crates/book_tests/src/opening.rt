@@ -1,21 +1,18 @@
+use crate::entering::{load, offer, zone};
 use book::Book;
 use rules::refusal::Refusal;
 use std::test::Fail;
 
 // The number of a refusal, and 0 for what is carried out.
+// Told by numbers, so that the tests pin the number of each refusal too.
 pub fn refused<T: Drop>(answer: Result<T, Refusal>) -> u32 {
-    match answer {
-        Ok(_) => 0,
-        Err(refusal) => refusal.number(),
-    }
+    answer.err().map_or(0, |refusal| refusal.number())
 }
 
 // The number of an entry, or 100 and the number of the refusal.
+// Told by numbers, so that the tests pin the number of each refusal too.
 pub fn entered(answer: Result<u64, Refusal>) -> u64 {
-    match answer {
-        Ok(number) => number,
-        Err(refusal) => 100 + u64::from(refusal.number()),
-    }
+    answer.unwrap_or_else(|refusal| 100 + u64::from(refusal.number()))
 }
 
 #[test]
@@ -44,22 +41,19 @@ fn tickets(rt: HostRuntime) -> Result<(), Fail> {
     let first = book.open(2010, 26000)?;
     let second = other.open(2011, 1)?;
     // a ticket of another book in the same state passes
-    assert_eq!(rt; entered(book.zone(&second, 1, &[0; 12])), 1);
-    match book.begin(first) {
-        Ok(_) => {}
-        Err(_) => return Err(Fail::new("June was refused")),
-    }
+    assert_eq!(rt; entered(book.zone(&second, zone(1, [0; 12]))), 1);
+    let _june = book
+        .begin(first)
+        .map_err(|_| Fail::new("June was refused"))?;
     // set-up is over, which is tested before anything else
-    assert_eq!(rt; entered(book.zone(&second, 20001, &[0; 12])), 114);
-    assert_eq!(rt; entered(book.resource(&second, 9, b'X', 0, 0)), 114);
-    assert_eq!(rt; entered(book.load(&second, 9, 0)), 114);
+    assert_eq!(rt; entered(book.zone(&second, zone(20001, [0; 12]))), 114);
+    assert_eq!(rt; entered(book.resource(&second, offer(9, b'X', 0, 0))), 114);
+    assert_eq!(rt; entered(book.load(&second, load(9, 0))), 114);
     // a refused step hands its ticket back, and the other book takes it
-    match book.begin(second) {
-        Ok(_) => Err(Fail::new("June began twice")),
-        Err(back) => {
-            assert_eq!(rt; back.refusal.number(), 14);
-            assert!(rt; other.begin(back.ticket).is_ok());
-            Ok(())
-        }
-    }
+    let Err(back) = book.begin(second) else {
+        return Err(Fail::new("June began twice"));
+    };
+    assert_eq!(rt; back.refusal.number(), 14);
+    assert!(rt; other.begin(back.ticket).is_ok());
+    Ok(())
 }

@@ -1,18 +1,47 @@
+use crate::entering::{offer, zone};
 use crate::opening::entered;
 use book::{Book, SetupTicket};
 use rules::refusal::Refusal;
+use rules::rows::{Auction, Bilateral};
 use std::test::Fail;
 
 // Two zones, the first with resources of 10,000, 500 and 199,950, the second with one of 100.
 fn filled(book: &mut Book) -> Result<SetupTicket, Refusal> {
     let ticket = book.open(2010, 26000)?;
-    book.zone(&ticket, 4500, &[0; 12])?;
-    book.zone(&ticket, 4500, &[0; 12])?;
-    book.resource(&ticket, 1, b'G', 10000, 0)?;
-    book.resource(&ticket, 1, b'P', 500, 0)?;
-    book.resource(&ticket, 1, b'I', 199950, 0)?;
-    book.resource(&ticket, 2, b'G', 100, 0)?;
+    book.zone(&ticket, zone(4500, [0; 12]))?;
+    book.zone(&ticket, zone(4500, [0; 12]))?;
+    book.resource(&ticket, offer(1, b'G', 10000, 0))?;
+    book.resource(&ticket, offer(1, b'P', 500, 0))?;
+    book.resource(&ticket, offer(1, b'I', 199950, 0))?;
+    book.resource(&ticket, offer(2, b'G', 100, 0))?;
     Ok(ticket)
+}
+
+// A bilateral, by its parties and months.
+pub fn bilateral(
+    (shedder, acquirer): (u64, u64),
+    (first, last): (u64, u64),
+    quantity: u64,
+    price: u64,
+) -> Bilateral {
+    Bilateral {
+        shedder,
+        acquirer,
+        first,
+        last,
+        quantity,
+        price,
+    }
+}
+
+pub fn auction(resource: u64, (first, last): (u64, u64), quantity: i64, price: u64) -> Auction {
+    Auction {
+        resource,
+        first,
+        last,
+        quantity,
+        price,
+    }
 }
 
 #[test]
@@ -40,10 +69,8 @@ fn bilaterals(rt: HostRuntime) -> Result<(), Fail> {
         (1, 3, 12, 12, 50, 0, 3),
     ];
     for (shedder, acquirer, first, last, quantity, price, answer) in cases {
-        assert_eq!(rt;
-            entered(book.bilateral(shedder, acquirer, first, last, quantity, price)),
-            answer
-        );
+        let trade = bilateral((shedder, acquirer), (first, last), quantity, price);
+        assert_eq!(rt; entered(book.bilateral(trade)), answer);
     }
     Ok(())
 }
@@ -67,16 +94,17 @@ fn auctions(rt: HostRuntime) -> Result<(), Fail> {
         (3, 1, 1, 50, 20000, 3),
     ];
     for (resource, first, last, quantity, price, answer) in cases {
-        assert_eq!(rt;
-            entered(book.auction(resource, first, last, quantity, price)),
-            answer
-        );
+        let trade = auction(resource, (first, last), quantity, price);
+        assert_eq!(rt; entered(book.auction(trade)), answer);
     }
     for number in 4..129 {
-        assert_eq!(rt; entered(book.auction(1, 12, 12, 1, 0)), number);
+        assert_eq!(rt; entered(book.auction(auction(1, (12, 12), 1, 0))), number);
     }
-    assert_eq!(rt; entered(book.auction(9, 0, 0, 0, 20001)), 115);
-    assert_eq!(rt; entered(book.bilateral(9, 0, 0, 0, 0, 20001)), 115);
+    assert_eq!(rt; entered(book.auction(auction(9, (0, 0), 0, 20001))), 115);
+    assert_eq!(rt;
+        entered(book.bilateral(bilateral((9, 0), (0, 0), 0, 20001))),
+        115
+    );
     Ok(())
 }
 
@@ -85,9 +113,15 @@ fn after_june_began(rt: HostRuntime) -> Result<(), Fail> {
     let mut book = Book::new(rt.alloc())?;
     let ticket = filled(&mut book)?;
     assert!(rt; book.begin(ticket).is_ok());
-    assert_eq!(rt; entered(book.bilateral(1, 2, 1, 12, 1, 0)), 118);
-    assert_eq!(rt; entered(book.auction(1, 1, 1, 1, 0)), 118);
-    assert_eq!(rt; entered(book.bilateral(1, 2, 2, 12, 1, 0)), 1);
-    assert_eq!(rt; entered(book.auction(1, 2, 2, 1, 0)), 2);
+    assert_eq!(rt;
+        entered(book.bilateral(bilateral((1, 2), (1, 12), 1, 0))),
+        118
+    );
+    assert_eq!(rt; entered(book.auction(auction(1, (1, 1), 1, 0))), 118);
+    assert_eq!(rt;
+        entered(book.bilateral(bilateral((1, 2), (2, 12), 1, 0))),
+        1
+    );
+    assert_eq!(rt; entered(book.auction(auction(1, (2, 2), 1, 0))), 2);
     Ok(())
 }

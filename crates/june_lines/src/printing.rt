@@ -1,3 +1,6 @@
+// Each line as a text, and the calls that write one.
+#![tactic(auto, using(text::proofs::Pastes::putting))]
+
 ghost use Rattle.rules.specs.declared.refusal.Refusal.TheVariants.{BufferShort};
 ghost use Rattle.rules.specs.Questions.{terms_question};
 ghost use Rattle.text.specs.Buffer.{Wrote};
@@ -6,43 +9,43 @@ ghost use Rattle.june_lines.specs.Texts.{terms_text, refused_text, WroteTerms};
 
 use book::{Book, MonthTicket};
 use lines::faults::SheetFault;
+use rules::answers::Terms;
 use rules::refusal::Refusal;
-use text::writing::{Text, put_bytes, put_end, put_later_signed, put_number, put_numbers, write};
+use text::writing::{Text, Writer, write};
 
 // RESOURCE PAYMENT DEDUCTION
 #[derive(Clone, Copy)]
 struct TermsLine {
     resource: u64,
-    payment: i64,
-    deduction: i64,
+    terms: Terms,
 }
 
 impl Text for TermsLine {
-    ghost text = { λ x. terms_text x.resource x.payment x.deduction };
+    ghost text = { λ x. terms_text x.resource x.terms.payment x.terms.deduction };
 
-    fn put(&self, out: &mut [u8], at: usize) -> usize {
-        let end = put_number(out, at, self.resource);
-        let end = put_later_signed(out, end, self.payment);
-        let end = put_later_signed(out, end, self.deduction);
-        put_end(out, end)
+    fn put(&self, w: &mut Writer<'_>) {
+        w.number(self.resource);
+        w.later(self.terms.payment);
+        w.later(self.terms.deduction);
+        w.end();
     }
 }
 
 // refused NUMBER LINE FIELD
 #[derive(Clone, Copy)]
-struct RefusedLine {
-    number: u64,
-    line: u64,
-    field: u64,
+struct RefusedLine<'a> {
+    fault: &'a SheetFault,
 }
 
-impl Text for RefusedLine {
-    ghost text = { λ x. refused_text x.number x.line x.field };
+impl<'a> Text for RefusedLine<'a> {
+    ghost text = { λ x. refused_text x.fault.now.number x.fault.now.line x.fault.now.field };
 
-    fn put(&self, out: &mut [u8], at: usize) -> usize {
-        let end = put_bytes(out, at, b"refused");
-        let end = put_numbers(out, end, &[self.number, self.line, self.field]);
-        put_end(out, end)
+    fn put(&self, w: &mut Writer<'_>) {
+        w.bytes(b"refused");
+        w.later(self.fault.number);
+        w.later(self.fault.line);
+        w.later(self.fault.field);
+        w.end();
     }
 }
 
@@ -56,22 +59,12 @@ pub fn resource_line(
     ensures { WroteTerms resource (terms_question (view book.now) ticket.now.month resource) out.old out.new result }
 {
     let terms = book.terms(ticket, resource)?;
-    let line = TermsLine {
-        resource,
-        payment: terms.payment,
-        deduction: terms.deduction,
-    };
-    write(&line, out, Refusal::BufferShort)
+    write(&TermsLine { resource, terms }, out, Refusal::BufferShort)
 }
 
 // The fault of a sheet that was refused.
 pub fn refused_line(fault: &SheetFault, out: &mut [u8]) -> Result<usize, Refusal>
     ensures { Wrote BufferShort (refused_text fault.now.number fault.now.line fault.now.field) out.old out.new result }
 {
-    let line = RefusedLine {
-        number: fault.number as u64,
-        line: fault.line as u64,
-        field: fault.field as u64,
-    };
-    write(&line, out, Refusal::BufferShort)
+    write(&RefusedLine { fault }, out, Refusal::BufferShort)
 }

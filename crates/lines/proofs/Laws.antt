@@ -15,11 +15,20 @@ use Rattle.text.proofs.Pieces.{parts, ended_some, from_stop, from_more}
 use Rattle.lines.specs.declared.faults.LineFault.{LineFault}
 use Rattle.lines.specs.declared.faults.LineFault.TheVariants.{Due}
 use Rattle.rules.specs.declared.entry.Entry.{Entry}
-use Rattle.rules.specs.declared.entry.Entry.TheVariants.{Zone, Resource, Load, Bilateral, Auction}
+use Rattle.rules.specs.declared.entry.Entry.TheVariants.{Zone, Resource, Load, Trade}
+use Rattle.rules.specs.declared.rows.Trade.TheVariants as trade
 use Rattle.lines.specs.Faults.{of_field}
-use Rattle.lines.specs.Kinds.{opening, count, zone, resource, load, bilateral, auction, section_letter, lettered, opening_row, read_opening, count_row, read_count, bilateral_row, auction_row, read_entry, entry_text, section_of, good}
+use Rattle.lines.specs.Kinds.{opening, count, zone, resource, load, bilateral, auction, of_resource, to_resource, of_bilateral, to_bilateral, of_auction, to_auction, section_letter, lettered, opening_row, read_opening, count_row, read_count, bilateral_row, auction_row, read_entry, entry_text, section_of, good}
 use Rattle.lines.specs.Lines.{line_at}
-use Rattle.lines.proofs.Rows.{line_here, line_due}
+
+-- the next line of a text, by what its row says
+line_due : {A : Type 0} (section : Section) (read : Spot → List ℕ → Result A LineFault) (p : Place) → ended p.rest ≡ false → line_at section read p ≡ Err (Due (spot_at section p))
+unfolding line_at
+line_due section read p h = cond-false (ended p.rest) _ _ h
+
+line_here : {A : Type 0} (section : Section) (read : Spot → List ℕ → Result A LineFault) (p : Place) → ended p.rest ≡ true → line_at section read p ≡ then (read (spot_at section p) (row p.rest)) (λ x. Ok (x, pass p))
+unfolding line_at
+line_here section read p h = cond-true (ended p.rest) _ _ h
 
 -- a later field begins with its space
 spaced : {A : Type 0} (t : Token A) (y : A) (r : List ℕ) → Edge 32 r → Edge 32 ((follows t).text y ++ r)
@@ -128,42 +137,42 @@ Fits section e = good e × (section_of e ≡ section)
 
 entry_forth : (at : Spot) (e : Entry) → good e → read_entry (section_of e) at (entry_text e) ≡ Ok e
 unfolding read_entry
-entry_forth at (Zone price rents) g = row_to zone zone_laws (λ x. Zone x.0 x.1) at (price, rents) g
-entry_forth at (Resource z k q s) g = row_to resource resource_laws (λ x. Resource x.0 x.1.0 x.1.1.0 x.1.1.1) at (z, (k, (q, s))) g
-entry_forth at (Load z o) g = row_to load load_laws (λ x. Load x.0 x.1) at (z, o) g
-entry_forth at (Bilateral s a f e q p) g =
-    let y : ℕ × (ℕ × (ℕ × (ℕ × (ℕ × ℕ)))) = (s, (a, (f, (e, (q, p))))) in
+entry_forth at (Zone z) g = row_to zone zone_laws (λ x. Zone (record { price = x.0; rents = x.1 })) at (z.price, z.rents) g
+entry_forth at (Resource r) g = row_to resource resource_laws (λ x. Resource (to_resource x)) at (of_resource r) g
+entry_forth at (Load k) g = row_to load load_laws (λ x. Load (record { zone = x.0; obligation = x.1 })) at (k.zone, k.obligation) g
+entry_forth at (Trade (trade.Bilateral b)) g =
+    let y : ℕ × (ℕ × (ℕ × (ℕ × (ℕ × ℕ)))) = (of_bilateral b).1 in
     let tail : List ℕ = (both (follows number) (both (follows number) (both (follows number) (both (follows number) (both (follows number) (follows number)))))).text y in
     let other : letter_is 65 (before 32 (66 ∷ tail)) ≡ false = ap (letter_is 65) (before_edge 32 (66 ∷ []) tail ((λ e. omega arith), tt) refl) in
     let v : Result Entry LineFault = of_field (bilateral_row at (66 ∷ tail)) in
     cond-false (letter_is 65 (before 32 (66 ∷ tail))) (of_field (auction_row at (66 ∷ tail))) (lettered 66 at (66 ∷ tail) v) other
-    ∙ lettered_forth 66 at tail v (Bilateral s a f e q p) (λ e. omega arith) refl
-    (row_to bilateral bilateral_laws (λ x. Bilateral x.1.0 x.1.1.0 x.1.1.1.0 x.1.1.1.1.0 x.1.1.1.1.1.0 x.1.1.1.1.1.1) at (tt, y) g)
-entry_forth at (Auction r f e q p) g =
-    let y : ℕ × (ℕ × (ℕ × (ℤ × ℕ))) = (r, (f, (e, (q, p)))) in
+    ∙ lettered_forth 66 at tail v (Trade (trade.Bilateral b)) (λ e. omega arith) refl
+    (row_to bilateral bilateral_laws (λ x. Trade (trade.Bilateral (to_bilateral x))) at (of_bilateral b) g)
+entry_forth at (Trade (trade.Auction a)) g =
+    let y : ℕ × (ℕ × (ℕ × (ℤ × ℕ))) = (of_auction a).1 in
     let tail : List ℕ = (both (follows number) (both (follows number) (both (follows number) (both (follows signed_number) (follows number))))).text y in
     cond-true (letter_is 65 (before 32 (65 ∷ tail))) (of_field (auction_row at (65 ∷ tail))) (lettered 66 at (65 ∷ tail) (of_field (bilateral_row at (65 ∷ tail)))) (begins 65 tail (λ e. omega arith) refl)
-    ∙ row_to auction auction_laws (λ x. Auction x.1.0 x.1.1.0 x.1.1.1.0 x.1.1.1.1.0 x.1.1.1.1.1) at (tt, y) g
+    ∙ row_to auction auction_laws (λ x. Trade (trade.Auction (to_auction x))) at (of_auction a) g
 
 abbrev Is : Section → List ℕ → Entry → Type 0
 Is section s e = (s ≡ entry_text e) × Fits section e
 
 auction_back : (at : Spot) (s : List ℕ) (e : Entry) → of_field (auction_row at s) ≡ Ok e → Is T s e
 auction_back at s e h =
-    let p = row_from auction auction_laws (λ x. Auction x.1.0 x.1.1.0 x.1.1.1.0 x.1.1.1.1.0 x.1.1.1.1.1) at s e h in
+    let p = row_from auction auction_laws (λ x. Trade (trade.Auction (to_auction x))) at s e h in
     subst (Is T s) p.3 (p.1, (p.2, refl))
 
 bilateral_back : (at : Spot) (s : List ℕ) (e : Entry) → of_field (bilateral_row at s) ≡ Ok e → Is T s e
 bilateral_back at s e h =
-    let p = row_from bilateral bilateral_laws (λ x. Bilateral x.1.0 x.1.1.0 x.1.1.1.0 x.1.1.1.1.0 x.1.1.1.1.1.0 x.1.1.1.1.1.1) at s e h in
+    let p = row_from bilateral bilateral_laws (λ x. Trade (trade.Bilateral (to_bilateral x))) at s e h in
     subst (Is T s) p.3 (p.1, (p.2, refl))
 
 entry_back : (section : Section) (at : Spot) (s : List ℕ) (e : Entry) → read_entry section at s ≡ Ok e → Is section s e
 unfolding read_entry
 entry_back Y at s e h = let z : ◌≡◌ {A = ℕ} 0 1 = cc in absurd (omega arith)
-entry_back Z at s e h = let p = row_from zone zone_laws (λ x. Zone x.0 x.1) at s e h in subst (Is Z s) p.3 (p.1, (p.2, refl))
-entry_back R at s e h = let p = row_from resource resource_laws (λ x. Resource x.0 x.1.0 x.1.1.0 x.1.1.1) at s e h in subst (Is R s) p.3 (p.1, (p.2, refl))
-entry_back L at s e h = let p = row_from load load_laws (λ x. Load x.0 x.1) at s e h in subst (Is L s) p.3 (p.1, (p.2, refl))
+entry_back Z at s e h = let p = row_from zone zone_laws (λ x. Zone (record { price = x.0; rents = x.1 })) at s e h in subst (Is Z s) p.3 (p.1, (p.2, refl))
+entry_back R at s e h = let p = row_from resource resource_laws (λ x. Resource (to_resource x)) at s e h in subst (Is R s) p.3 (p.1, (p.2, refl))
+entry_back L at s e h = let p = row_from load load_laws (λ x. Load (record { zone = x.0; obligation = x.1 })) at s e h in subst (Is L s) p.3 (p.1, (p.2, refl))
 entry_back T at s e h =
     ⊎_elim
     (λ t. auction_back at s e (sym (cond-true (letter_is 65 (before 32 s)) _ _ t) ∙ h))
@@ -171,11 +180,11 @@ entry_back T at s e h =
     (cases_Bool (letter_is 65 (before 32 s)))
 
 entry_flat : (e : Entry) → good e → Free 10 (entry_text e)
-entry_flat (Zone price rents) g = zone_laws.flat (price, rents) g
-entry_flat (Resource z k q s) g = resource_laws.flat (z, (k, (q, s))) g
-entry_flat (Load z o) g = load_laws.flat (z, o) g
-entry_flat (Bilateral s a f e q p) g = bilateral_laws.flat (tt, (s, (a, (f, (e, (q, p)))))) g
-entry_flat (Auction r f e q p) g = auction_laws.flat (tt, (r, (f, (e, (q, p))))) g
+entry_flat (Zone z) g = zone_laws.flat (z.price, z.rents) g
+entry_flat (Resource r) g = resource_laws.flat (of_resource r) g
+entry_flat (Load k) g = load_laws.flat (k.zone, k.obligation) g
+entry_flat (Trade (trade.Bilateral b)) g = bilateral_laws.flat (of_bilateral b) g
+entry_flat (Trade (trade.Auction a)) g = auction_laws.flat (of_auction a) g
 
 pub entry_reads : (section : Section) → Reads (read_entry section) entry_text (Fits section)
 entry_reads section = record {

@@ -9,7 +9,11 @@ use Rattle.text.specs.Formats.{then, Format, leads, follows, both, many, read_ro
 use Rattle.lines.specs.declared.faults.LineFault.{LineFault}
 use Rattle.lines.specs.declared.faults.LineFault.TheVariants.{Due}
 use Rattle.rules.specs.declared.entry.Entry.{Entry}
-use Rattle.rules.specs.declared.entry.Entry.TheVariants.{Zone, Resource, Load, Bilateral, Auction}
+use Rattle.rules.specs.declared.entry.Entry.TheVariants.{Zone, Resource, Load, Trade}
+use Rattle.rules.specs.declared.entry.Offer.{Offer}
+use Rattle.rules.specs.declared.rows.Auction.{Auction}
+use Rattle.rules.specs.declared.rows.Bilateral.{Bilateral}
+use Rattle.rules.specs.declared.rows.Trade.TheVariants as trade
 use Rattle.lines.specs.Faults.{of_field}
 
 -- ---- the formats; letters are given by their codes
@@ -58,21 +62,40 @@ count_row c at s = then (read_row (count c) at s) (λ x. Ok x.1)
 abbrev pub read_count : Section → Spot → List ℕ → Result ℕ LineFault
 read_count section at s = lettered (section_letter section) at s (of_field (count_row (section_letter section) at s))
 
+-- the values of a resource and of a trade in the order of its line, and the entry of such values
+abbrev pub of_resource : Offer → ℕ × (ℕ × (ℕ × ℕ))
+of_resource r = (r.zone, (r.letter, (r.cleared, r.supplied)))
+
+abbrev pub to_resource : ℕ × (ℕ × (ℕ × ℕ)) → Offer
+to_resource x = record { zone = x.0; letter = x.1.0; cleared = x.1.1.0; supplied = x.1.1.1 }
+
+abbrev pub of_bilateral : Bilateral → Unit {0} × (ℕ × (ℕ × (ℕ × (ℕ × (ℕ × ℕ)))))
+of_bilateral b = (tt, (b.shedder, (b.acquirer, (b.first, (b.last, (b.quantity, b.price))))))
+
+abbrev pub to_bilateral : Unit {0} × (ℕ × (ℕ × (ℕ × (ℕ × (ℕ × ℕ))))) → Bilateral
+to_bilateral x = record { shedder = x.1.0; acquirer = x.1.1.0; first = x.1.1.1.0; last = x.1.1.1.1.0; quantity = x.1.1.1.1.1.0; price = x.1.1.1.1.1.1 }
+
+abbrev pub of_auction : Auction → Unit {0} × (ℕ × (ℕ × (ℕ × (ℤ × ℕ))))
+of_auction a = (tt, (a.resource, (a.first, (a.last, (a.quantity, a.price)))))
+
+abbrev pub to_auction : Unit {0} × (ℕ × (ℕ × (ℕ × (ℤ × ℕ)))) → Auction
+to_auction x = record { resource = x.1.0; first = x.1.1.0; last = x.1.1.1.0; quantity = x.1.1.1.1.0; price = x.1.1.1.1.1 }
+
 -- the entry that a line of a kind writes
 abbrev pub zone_row : Spot → List ℕ → Result Entry FieldFault
-zone_row at s = then (read_row zone at s) (λ x. Ok (Zone x.0 x.1))
+zone_row at s = then (read_row zone at s) (λ x. Ok (Zone (record { price = x.0; rents = x.1 })))
 
 abbrev pub resource_row : Spot → List ℕ → Result Entry FieldFault
-resource_row at s = then (read_row resource at s) (λ x. Ok (Resource x.0 x.1.0 x.1.1.0 x.1.1.1))
+resource_row at s = then (read_row resource at s) (λ x. Ok (Resource (to_resource x)))
 
 abbrev pub load_row : Spot → List ℕ → Result Entry FieldFault
-load_row at s = then (read_row load at s) (λ x. Ok (Load x.0 x.1))
+load_row at s = then (read_row load at s) (λ x. Ok (Load (record { zone = x.0; obligation = x.1 })))
 
 abbrev pub bilateral_row : Spot → List ℕ → Result Entry FieldFault
-bilateral_row at s = then (read_row bilateral at s) (λ x. Ok (Bilateral x.1.0 x.1.1.0 x.1.1.1.0 x.1.1.1.1.0 x.1.1.1.1.1.0 x.1.1.1.1.1.1))
+bilateral_row at s = then (read_row bilateral at s) (λ x. Ok (Trade (trade.Bilateral (to_bilateral x))))
 
 abbrev pub auction_row : Spot → List ℕ → Result Entry FieldFault
-auction_row at s = then (read_row auction at s) (λ x. Ok (Auction x.1.0 x.1.1.0 x.1.1.1.0 x.1.1.1.1.0 x.1.1.1.1.1))
+auction_row at s = then (read_row auction at s) (λ x. Ok (Trade (trade.Auction (to_auction x))))
 
 -- the entry of a line of a section; section Y has none
 unfoldable pub read_entry : Section → Spot → List ℕ → Result Entry LineFault
@@ -84,22 +107,21 @@ read_entry T at s = cond (letter_is 65 (before 32 s)) (of_field (auction_row at 
 
 -- the text of an entry, without LF, its section, and the entries that have a text
 abbrev pub entry_text : Entry → List ℕ
-entry_text (Zone price rents) = zone.text (price, rents)
-entry_text (Resource z class cleared supplied) = resource.text (z, (class, (cleared, supplied)))
-entry_text (Load z obligation) = load.text (z, obligation)
-entry_text (Bilateral shedder acquirer first last quantity price) = bilateral.text (tt, (shedder, (acquirer, (first, (last, (quantity, price))))))
-entry_text (Auction r first last quantity price) = auction.text (tt, (r, (first, (last, (quantity, price)))))
+entry_text (Zone z) = zone.text (z.price, z.rents)
+entry_text (Resource r) = resource.text (of_resource r)
+entry_text (Load k) = load.text (k.zone, k.obligation)
+entry_text (Trade (trade.Bilateral b)) = bilateral.text (of_bilateral b)
+entry_text (Trade (trade.Auction a)) = auction.text (of_auction a)
 
 abbrev pub section_of : Entry → Section
-section_of (Zone price rents) = Z
-section_of (Resource z class cleared supplied) = R
-section_of (Load z obligation) = L
-section_of (Bilateral shedder acquirer first last quantity price) = T
-section_of (Auction r first last quantity price) = T
+section_of (Zone z) = Z
+section_of (Resource r) = R
+section_of (Load k) = L
+section_of (Trade t) = T
 
 abbrev pub good : Entry → Type 0
-good (Zone price rents) = zone.good (price, rents)
-good (Resource z class cleared supplied) = resource.good (z, (class, (cleared, supplied)))
-good (Load z obligation) = load.good (z, obligation)
-good (Bilateral shedder acquirer first last quantity price) = bilateral.good (tt, (shedder, (acquirer, (first, (last, (quantity, price))))))
-good (Auction r first last quantity price) = auction.good (tt, (r, (first, (last, (quantity, price)))))
+good (Zone z) = zone.good (z.price, z.rents)
+good (Resource r) = resource.good (of_resource r)
+good (Load k) = load.good (k.zone, k.obligation)
+good (Trade (trade.Bilateral b)) = bilateral.good (of_bilateral b)
+good (Trade (trade.Auction a)) = auction.good (of_auction a)

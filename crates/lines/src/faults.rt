@@ -45,6 +45,7 @@ pub struct SheetFault {
     pub cause: LineFault,
 }
 
+// Each `From` says which fault it gives, since the contracts of what ends by `?` name it: a derived one says nothing.
 impl From<LineDue> for LineFault {
     ghost from_gives = { λ f r. r ≡ Due f.spot };
 

@@ -1,2 +1,2 @@
-pub mod Pays
+pub mod Earlier
 pub mod Settles

@@ -1,11 +1,9 @@
 // What a resource is paid for a month, and what is deducted for rents.
 #![tactic(auto)]
 
-mod deducting;
-mod paying;
-mod pays;
+mod account;
 mod rents;
-mod zone;
+mod trades;
 
-pub use deducting::deduction;
-pub use paying::{payment, payment_without_bilaterals};
+pub use account::Account;
+pub use rents::RentsBefore;

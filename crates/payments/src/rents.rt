@@ -1,76 +1,60 @@
-// The mean of a zone's twelve rents before a month.
-ghost use Rattle.std.specs.Prelude.{◌≡◌, ◌-◌, ◌*◌, ◌≤◌, ◌&&◌, length, drop, pos, ◌==◌, nat_lt};
-ghost use Rattle.std.specs.List.{AllByRecursion};
-ghost use Rattle.rules.specs.Rents.{rent_before, mean_rent as mean};
-ghost use Rattle.rules.specs.Rows.{row_of, no_zone};
+// The rents of a zone before a month.
+ghost use Rattle.std.specs.Prelude.{◌≡◌, ◌-◌, ◌<◌, ◌≤◌, ◌^◌, length, drop, pos, sum, sum_by, filter};
+ghost use Rattle.rules.specs.Kept.{ZoneBounded};
+ghost use Rattle.rules.specs.Rents.{rent_before};
 ghost use Rattle.rules.specs.Totals.{total};
-ghost use Rattle.standing.specs.View.{entries_of};
-ghost use Rattle.payments.specs.Settles.{Settles, AmountsBounded};
+ghost use Rattle.payments.specs.Settles.{AmountsBounded};
+ghost use Rattle.payments.specs.Earlier.{is_earlier};
 
-use rules::rows::Rent;
-use standing::Standing;
+use rules::rows::{Rent, Zone};
 
-fn sum(rents: &[u64]) -> u64
-    requires { (∥ AllByRecursion (λ x. x ≤ 10000000000) rents.now ∥₁) × (length rents.now ≤ 12) }
-    ensures value { pos result ≡ total pos rents.now }
-    ensures most { result ≤ 120000000000 }
-{
-    let mut sum = 0;
-    for rent in rents {
-        sum += *rent;
-    }
-    sum
+// The rents entered since June, as a month finds them.
+#[derive(Clone, Copy)]
+pub struct RentsBefore<'a> {
+    pub entered: &'a [Rent],
+    pub month: u64,
+    ghost amounts: { AmountsBounded entered.now },
+    ghost few: { length entered.now ≤ 96 },
+    ghost low: { 1 ≤ month },
+    ghost high: { month ≤ 12 },
 }
 
-// Of the rents before June, those that the months begun since have not pushed out.
-fn prior_rents(standing: &Standing, zone: u64, month: u64) -> u64
-    requires { (∥ Settles (entries_of standing.now) ∥₁) × ((1 ≤ month) × (month ≤ 12)) }
-    ensures value { pos result ≡ total pos (drop (month - 1) (row_of no_zone (entries_of standing.now).zones zone).rents) }
+// Of the zone's rents before June, those that the months begun since have not pushed out. A plain month: the rents
+// entered since carry its range, and none of them is read here.
+pub fn remaining_rents(zone: &Zone, month: u64) -> u64
+    requires limits { ZoneBounded zone.now }
+    requires month { (1 ≤ month) × (month ≤ 12) }
+    ensures value { result ≡ sum (drop (month - 1) zone.now.rents) }
     ensures most { result ≤ 120000000000 }
 {
-    match standing.zone(zone) {
-        Some(found) => sum(&found.rents[month as usize - 1..]),
-        None => 0,
-    }
+    zone.rents[month as usize - 1..].iter().sum()
 }
 
+#[tactic(auto, unfolding(crate::specs::Earlier::is_earlier))]
 fn is_earlier(rent: &Rent, zone: u64, month: u64) -> bool
-    ensures { result ≡ (rent.now.zone == zone && nat_lt rent.now.month month) }
+    ensures { result ≡ is_earlier zone month rent.now }
 {
     rent.zone == zone && rent.month < month
 }
 
-// The amount of a rent of that zone and an earlier month, or nil.
-fn earlier(rent: &Rent, zone: u64, month: u64) -> u64
-    requires { rent.now.amount ≤ 10000000000 }
-    ensures value { pos result ≡ rent_before zone month rent.now }
-    ensures most { result ≤ 10000000000 }
+fn earlier_sum(rents: &[Rent], zone: u64, month: u64) -> u64
+    requires { sum_by (λ r. r.amount) (filter (is_earlier zone month) rents.now) < 2 ^ 64 }
+    ensures { result ≡ sum_by (λ r. r.amount) (filter (is_earlier zone month) rents.now) }
 {
-    if is_earlier(rent, zone, month) {
-        rent.amount
-    } else {
-        0
-    }
+    rents
+        .iter()
+        .filter(|rent| is_earlier(rent, zone, month))
+        .map(|rent| rent.amount)
+        .sum()
 }
 
-// The rents entered for the zone's earlier months.
-fn entered_rents(rents: &[Rent], zone: u64, month: u64) -> u64
-    requires { (AmountsBounded rents.now) × (length rents.now ≤ 96) }
-    ensures value { pos result ≡ total (rent_before zone month) rents.now }
-    ensures most { result ≤ 960000000000 }
-{
-    let mut sum = 0;
-    for rent in rents {
-        sum += earlier(rent, zone, month);
+impl RentsBefore<'_> {
+    // The rents entered for the zone's earlier months.
+    #[tactic(auto, using(crate::proofs::Sums::entered_total, crate::proofs::Sums::entered_small))]
+    pub(crate) fn of_zone(&self, zone: u64) -> u64
+        ensures value { pos result ≡ total (rent_before zone self.now.month) self.now.entered.now }
+        ensures most { result ≤ 960000000000 }
+    {
+        earlier_sum(self.entered, zone, self.month)
     }
-    sum
-}
-
-pub fn mean_rent(standing: &Standing, rents: &[Rent], zone: u64, month: u64) -> u64
-    requires fact { (∥ Settles (entries_of standing.now) ∥₁) × ((1 ≤ month) × (month ≤ 12)) }
-    requires amounts_bounded { (AmountsBounded rents.now) × (length rents.now ≤ 96) }
-    ensures value { pos result ≡ mean (entries_of standing.now) rents.now zone month }
-    ensures most { result ≤ 90000000000 }
-{
-    (prior_rents(standing, zone, month) + entered_rents(rents, zone, month)) / 12
 }

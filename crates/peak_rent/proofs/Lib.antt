@@ -1,1 +1,1 @@
-pub mod Months
+pub mod Hours

@@ -1,5 +1,6 @@
 -- The peak energy rent of a month from its hours, in millionths of a dollar per kilowatt. Assumes nothing.
-use Rattle.std.specs.Prelude.{ℕ, ◌*◌, ◌/◌, min, Bool, true, cond, not, ◌&&◌, List, [], ◌∷◌, length, ℤ, pos, ◌-ℤ◌, neg_ℤ, Ok, Err, sum_by, Result, int_le, int_lt, nat_le, unsigned_abs}
+use Rattle.std.specs.Prelude.{ℕ, ◌*◌, ◌/◌, min, Bool, cond, not, ◌&&◌, List, length, ℤ, pos, ◌-ℤ◌, neg_ℤ, Ok, Err, sum_by, Result, int_le, int_lt, nat_le, unsigned_abs}
+use Rattle.std.specs.List.{list_all}
 use Rattle.peak_rent.specs.declared.hour.Hour.{Hour}
 use Rattle.peak_rent.specs.declared.refusal.RentRefusal.{RentRefusal}
 use Rattle.peak_rent.specs.declared.refusal.RentRefusal.TheVariants.{PeakOutOfRange, TooManyHours, HourOutOfRange}
@@ -13,8 +14,7 @@ abbrev pub in_range : Hour → Bool
 in_range h = within (neg_ℤ (pos 1000000)) (pos 1000000) h.price && (within (pos 0) (pos 1000000) h.strike && within (pos 0) (pos 100000) h.load)
 
 abbrev pub all_in_range : List Hour → Bool
-all_in_range [] = true
-all_in_range (h ∷ hs) = in_range h && all_in_range hs
+all_in_range hours = list_all in_range hours
 
 abbrev pub above_strike : Hour → Bool
 above_strike h = int_lt h.strike h.price

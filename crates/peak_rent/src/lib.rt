@@ -3,6 +3,7 @@
 
 mod hour;
 mod month;
+mod peak;
 mod refusal;
 
 pub use hour::Hour;

@@ -1,12 +1,12 @@
 -- The rules of the two sources. Assumes nothing.
 use Rattle.std.proofs.Common.{◌≡◌, ℕ, ◌*◌, ◌<◌, ◌≤◌, true, false, List, length, take, refl, mul-le-mul_right, arith}
 use Rattle.std.proofs.lemmas.List.{take-take, get_or-take, length-take-le}
-use Rattle.std.proofs.ByRecursion.{All-take, All-from_get_or}
+use Rattle.std.proofs.lemmas.List.Elements.{All-take, All-from_get_or}
 use Rattle.std.proofs.lemmas.Bool.{and_parts, and_from, le-leb, eqb-true, eq-eqb}
 use Rattle.readings.specs.Table.{Table, Applies}
 use Rattle.readings.specs.Rules.{first_at_most, in_range}
 use Rattle.readings.specs.Sources.{published_of, published_covers, hourly_of, hourly_covers, asked}
-use Rattle.readings.specs.AtMost.{decides_at_most}
+use Rattle.readings.specs.AtMost.{decides_each}
 use Rattle.readings.specs.Ranges.{in_range_tells, first_at_most_length, first_at_most_get_or}
 use Rattle.readings.specs.Theorems.{FirstAtMost, PublishedRule, HourlyRule}
 
@@ -14,9 +14,10 @@ use Rattle.readings.specs.Theorems.{FirstAtMost, PublishedRule, HourlyRule}
 first_at_most_falls : (xs : List ℕ) (n k m : ℕ) → k ≤ n → first_at_most xs n m ≡ true → first_at_most xs k m ≡ true
 first_at_most_falls xs n k m low e =
     let long = first_at_most_length xs n m e in
-    let firsts = (decides_at_most m (take n xs)).0 (and_parts _ _ e).1 in
+    let short : k ≤ length xs = omega arith in
+    let firsts = (decides_each m (take n xs)).0 (and_parts _ _ e).1 in
     let fewer = All-take (λ x. x ≤ m) k (take n xs) firsts in
-    and_from _ _ (le-leb k (length xs) (omega arith)) ((decides_at_most m (take k xs)).1 (rw (take-take k n xs low) at fewer))
+    and_from _ _ (le-leb k (length xs) short) ((decides_each m (take k xs)).1 (rw (take-take k n xs low) at fewer))
 
 in_range_from : (t : Table) (n r q h : ℕ) → Applies t n r q h → in_range r q h ≡ true
 in_range_from t n r q h a =
@@ -50,7 +51,7 @@ first_from xs n m f =
     let long = f.exist in
     let firsts = All-from_get_or (λ x. x ≤ m) (take n xs) 0
     (λ i low. let within : i < n = rw (length-take-le n xs long) at low in rw (get_or-take n xs i 0 within) (f.most i within)) in
-    and_from _ _ (le-leb n (length xs) long) ((decides_at_most m (take n xs)).1 firsts)
+    and_from _ _ (le-leb n (length xs) long) ((decides_each m (take n xs)).1 firsts)
 
 first_tells : (xs : List ℕ) (n m : ℕ) → first_at_most xs n m ≡ true → FirstAtMost xs n m
 first_tells xs n m e = record { exist = first_at_most_length xs n m e; most = λ i low. first_at_most_get_or xs n m i e low }

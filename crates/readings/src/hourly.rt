@@ -1,11 +1,13 @@
 // Hourly readings: for each resource one number for each hour of the event.
-ghost use Rattle.std.specs.Prelude.{◌≡◌, ◌*◌, ◌^◌, ◌<◌, ◌≤◌, min, true, length, sum_by, sum};
+ghost use Rattle.std.specs.Prelude.{◌≡◌, ◌*◌, ◌^◌, ◌<◌, ◌≤◌, min, true, length, sum_by, sum, IfSome};
+ghost use Rattle.std.specs.Bool.{then_some};
+ghost use Rattle.std.specs.Option.{option_copied};
 ghost use Rattle.readings.specs.Rules.{first_at_most};
-ghost use Rattle.readings.specs.Sources.{hourly_of, hours_of};
+ghost use Rattle.readings.specs.Sources.{asked, hourly_covers, hourly_of, hours_of};
 ghost use Rattle.readings.specs.HourlyLaws.{hourly_lawful};
 
-use crate::Readings;
-use crate::rules::{due_of, first_at_most, in_range};
+use crate::rules::{UNANSWERED, first_at_most};
+use crate::{Question, Readings};
 
 // In order of resource, then hour, made for events of `hours` hours.
 #[derive(Clone, Copy)]
@@ -30,11 +32,7 @@ fn sum_up_to(readings: &[u64], most: u64) -> u64
     requires { (length readings.now ≤ 24) × (most ≤ 4800000) }
     ensures { result ≡ sum_by (λ x. min x most) readings.now }
 {
-    let mut counted = 0;
-    for x in readings {
-        counted += (*x).min(most);
-    }
-    counted
+    readings.iter().map(|x| (*x).min(most)).sum()
 }
 
 fn total(readings: &[u64]) -> u64
@@ -44,34 +42,39 @@ fn total(readings: &[u64]) -> u64
     readings.iter().sum()
 }
 
-impl<'a> Readings for Hourly<'a> {
+impl Hourly<'_> {
+    // The readings that answer a question; none where it is not answered from the readings.
+    fn own_readings(&self, question: Question) -> Option<&[u64]>
+        ensures value { let readings = self.now.readings.now in
+            option_copied result ≡ then_some
+            (asked (hourly_covers readings self.now.hours) question.resource question.position question.hours)
+            (hours_of readings question.resource question.hours) }
+        ensures few { IfSome result (λ own. (length own.now ≤ 24) × (sum own.now ≤ 4800000)) }
+        ensures ranges { IfSome result (λ _. (question.position ≤ 200000) × (question.hours ≤ 24)) }
+    {
+        self.answers(question).then(|| hours_of(self.readings, question.resource, question.hours))
+    }
+}
+
+impl Readings for Hourly<'_> {
     ghost table = { λ s. hourly_of s.readings.now s.hours };
 
     ghost lawful = { λ s. hourly_lawful s.readings.now s.hours };
 
     fn covers(&self, count: usize, hours: u64) -> bool {
-        if self.hours != hours {
-            return false;
-        }
-        match count.checked_mul(hours as usize) {
-            Some(numbers) => first_at_most(self.readings, numbers, 200000),
-            None => false,
-        }
+        self.hours == hours
+            && count
+                .checked_mul(hours as usize)
+                .is_some_and(|numbers| first_at_most(self.readings, numbers, 200000))
     }
 
-    fn score(&self, resource: usize, position: u64, hours: u64) -> (u64, u64) {
-        if !in_range(resource, position, hours) || !self.covers(resource, hours) {
-            return (0, 1);
-        }
-        let own = hours_of(self.readings, resource, hours);
-        let due = due_of(position, hours);
-        (sum_up_to(own, position), due)
+    fn score(&self, question: Question) -> (u64, u64) {
+        self.own_readings(question).map_or(UNANSWERED, |own| {
+            (sum_up_to(own, question.position), question.due())
+        })
     }
 
-    fn weight(&self, resource: usize, position: u64, hours: u64) -> u64 {
-        if !in_range(resource, position, hours) || !self.covers(resource, hours) {
-            return 0;
-        }
-        total(hours_of(self.readings, resource, hours))
+    fn weight(&self, question: Question) -> u64 {
+        self.own_readings(question).map_or(0, total)
     }
 }

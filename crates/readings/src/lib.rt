@@ -3,15 +3,18 @@
 
 mod hourly;
 mod published;
+mod question;
 mod rules;
 mod source;
 mod theorems;
 
 ghost use Rattle.std.specs.Prelude.{◌≡◌};
+ghost use Rattle.readings.specs.Sources.{asked};
 ghost use Rattle.readings.specs.Table.{Table, Lawful};
 
 pub use hourly::Hourly;
 pub use published::Published;
+pub use question::Question;
 pub use source::Source;
 pub use theorems::source_rules_stand;
 
@@ -26,11 +29,18 @@ pub trait Readings {
     fn covers(&self, count: usize, hours: u64) -> bool
         ensures { result ≡ (table self.now).covers count hours };
 
-    // What the resource, counted from 1, kept of what was due: (kept, due).
-    fn score(&self, resource: usize, position: u64, hours: u64) -> (u64, u64)
-        ensures { result ≡ (table self.now).score resource position hours };
+    // Whether the question is answered from the readings.
+    fn answers(&self, question: Question) -> bool
+        ensures { result ≡ asked (table self.now).covers question.resource question.position question.hours }
+    {
+        question.is_in_range() && self.covers(question.resource, question.hours)
+    }
+
+    // What the resource kept of what was due: (kept, due).
+    fn score(&self, question: Question) -> (u64, u64)
+        ensures { result ≡ (table self.now).score question.resource question.position question.hours };
 
     // The resource's weight in the credits.
-    fn weight(&self, resource: usize, position: u64, hours: u64) -> u64
-        ensures { result ≡ (table self.now).weight resource position hours };
+    fn weight(&self, question: Question) -> u64
+        ensures { result ≡ (table self.now).weight question.resource question.position question.hours };
 }

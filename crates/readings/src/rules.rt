@@ -1,35 +1,21 @@
 // The rules that the sources share.
-ghost use Rattle.std.specs.Prelude.{◌≡◌, ◌*◌, ◌≤◌};
-ghost use Rattle.readings.specs.Rules.{first_at_most, in_range};
+ghost use Rattle.std.specs.Prelude.{◌≡◌};
+ghost use Rattle.readings.specs.Rules.{at_most, first_at_most};
+
+// The score of a question that is not answered from the readings: nothing kept of 1.
+pub const UNANSWERED: (u64, u64) = (0, 1);
+
+fn are_at_most(numbers: &[u64], limit: u64) -> bool
+    ensures { result ≡ at_most limit numbers.now }
+{
+    numbers.iter().all(|x| *x <= limit)
+}
 
 // Whether the first `count` numbers exist and are at most `limit`.
 pub fn first_at_most(numbers: &[u64], count: usize, limit: u64) -> bool
     ensures { result ≡ first_at_most numbers.now count limit }
 {
-    if count > numbers.len() {
-        return false;
-    }
-    let first = &numbers[0..count];
-    for x in first {
-        if *x > limit {
-            return false;
-        }
-    }
-    true
-}
-
-// Whether resource, position and hours are in the ranges of a question.
-pub fn in_range(resource: usize, position: u64, hours: u64) -> bool
-    ensures { result ≡ in_range resource position hours }
-{
-    resource >= 1 && position >= 1 && position <= 200000 && hours >= 1 && hours <= 24
-}
-
-// Position times hours: what an event of full availability would read.
-pub fn due_of(position: u64, hours: u64) -> u64
-    requires { (position ≤ 200000) × (hours ≤ 24) }
-    ensures value { result ≡ position * hours }
-    ensures most { result ≤ 4800000 }
-{
-    position * hours
+    numbers
+        .get(..count)
+        .is_some_and(|first| are_at_most(first, limit))
 }

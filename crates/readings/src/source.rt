@@ -1,9 +1,10 @@
-// A source of either kind, so that each event of a list may bring another.
+// A source of either kind, by value: a list of calls holds sources of both kinds, with nothing beside it that owns them.
+// So no `&dyn`, which needs an owner, and no box, which needs the heap.
 ghost use Rattle.readings.specs.EitherSource.{source_of, source_lawful};
 
-use crate::Readings;
 use crate::hourly::Hourly;
 use crate::published::Published;
+use crate::{Question, Readings};
 
 #[derive(Clone, Copy)]
 pub enum Source<'a> {
@@ -11,7 +12,7 @@ pub enum Source<'a> {
     Published(Published<'a>),
 }
 
-impl<'a> Readings for Source<'a> {
+impl Readings for Source<'_> {
     ghost table = { source_of };
 
     ghost lawful = { source_lawful };
@@ -23,17 +24,17 @@ impl<'a> Readings for Source<'a> {
         }
     }
 
-    fn score(&self, resource: usize, position: u64, hours: u64) -> (u64, u64) {
+    fn score(&self, question: Question) -> (u64, u64) {
         match self {
-            Source::Hourly(source) => source.score(resource, position, hours),
-            Source::Published(source) => source.score(resource, position, hours),
+            Source::Hourly(source) => source.score(question),
+            Source::Published(source) => source.score(question),
         }
     }
 
-    fn weight(&self, resource: usize, position: u64, hours: u64) -> u64 {
+    fn weight(&self, question: Question) -> u64 {
         match self {
-            Source::Hourly(source) => source.weight(resource, position, hours),
-            Source::Published(source) => source.weight(resource, position, hours),
+            Source::Hourly(source) => source.weight(question),
+            Source::Published(source) => source.weight(question),
         }
     }
 }

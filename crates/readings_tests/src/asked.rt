@@ -1,29 +1,29 @@
-use readings::{Hourly, Published, Readings, Source};
+use readings::{Hourly, Published, Question, Readings, Source};
 use std::process::Abort;
 
-pub fn hourly<'a>(readings: &'a [u64], hours: u64) -> Source<'a> {
+pub fn hourly(readings: &[u64], hours: u64) -> Source<'_> {
     Source::Hourly(Hourly { readings, hours })
 }
 
-pub fn published<'a>(scores: &'a [u64]) -> Source<'a> {
+pub fn published(scores: &[u64]) -> Source<'_> {
     Source::Published(Published { scores })
 }
 
-// A question for resource, position and hours, with the score and the weight that it is to answer.
+// A question, with the score and the weight that it is to answer.
 #[derive(Clone, Copy)]
 pub struct Asked {
-    resource: usize,
-    position: u64,
-    hours: u64,
+    question: Question,
     score: (u64, u64),
     weight: u64,
 }
 
 pub fn asks(resource: usize, position: u64, hours: u64, score: (u64, u64), weight: u64) -> Asked {
     Asked {
-        resource,
-        position,
-        hours,
+        question: Question {
+            resource,
+            position,
+            hours,
+        },
         score,
         weight,
     }
@@ -35,9 +35,9 @@ pub fn silent(resource: usize, position: u64, hours: u64) -> Asked {
 }
 
 pub fn answers<R: Readings>(rt: &impl Abort, source: &R, questions: &[Asked]) {
-    for q in questions {
-        assert_eq!(rt; source.score(q.resource, q.position, q.hours), q.score);
-        assert_eq!(rt; source.weight(q.resource, q.position, q.hours), q.weight);
+    for asked in questions {
+        assert_eq!(rt; source.score(asked.question), asked.score);
+        assert_eq!(rt; source.weight(asked.question), asked.weight);
     }
 }
 

@@ -1,7 +1,7 @@
 // Reads the hours of a month from standard input, and prints the month's peak energy rent or its refusal.
 #![tactic(auto)]
 
-use rent_input::{Failure, Month, read_month, report_on};
+use rent_input::{Month, read_month, report_on};
 use std::io;
 use std::io::Read;
 use std::process::ExitCode;
@@ -13,6 +13,7 @@ fn input(rt: &HostRuntime) -> io::Result<Vec<u8>> {
 }
 
 fn answer(rt: &HostRuntime, month: &Month) -> io::Result<()> {
+    // a refusal is an answer too, and is printed
     match report_on(month) {
         Ok(report) => println!(rt; "{report}"),
         Err(refusal) => {
@@ -30,12 +31,8 @@ fn main(rt: HostRuntime) -> io::Result<ExitCode> {
             answer(&rt, &month)?;
             Ok(ExitCode::SUCCESS)
         }
-        Err(Failure::Unreadable(fault)) => {
-            eprintln!(rt; "unreadable: {fault}")?;
-            Ok(ExitCode::FAILURE)
-        }
-        Err(Failure::NoMemory) => {
-            eprintln!(rt; "out of memory")?;
+        Err(failure) => {
+            eprintln!(rt; "{failure}")?;
             Ok(ExitCode::FAILURE)
         }
     }

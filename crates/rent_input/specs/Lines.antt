@@ -1,25 +1,24 @@
 -- What a line of the input says. Assumes nothing.
-use Rattle.std.specs.Prelude.{ℕ, List, [], ◌∷◌, ℤ, Ok, Err, Result}
+use Rattle.std.specs.Prelude.{ℕ, List, [], ◌∷◌, ℤ, Ok, Err, Option, Result}
 use Rattle.std.specs.Option.{ok_or}
 use Rattle.peak_rent.specs.declared.hour.Hour.{Hour}
 use Rattle.text.specs.Cuts.{before, from, next, past}
 use Rattle.text.specs.Numbers.{numeral, signed_numeral}
+use Rattle.text.specs.Formats.{then}
 use Rattle.rent_input.specs.declared.faults.Wrong.{Wrong}
 use Rattle.rent_input.specs.declared.faults.Wrong.TheVariants.{Missing, NotANumber, Surplus}
 
--- what a `?` does: go on with the value, or pass the fault
-abbrev pub then : {A B F : Type 0} → Result A F → (A → Result B F) → Result B F
-then (Ok x) f = f x
-then (Err e) f = Err e
+-- the number of the field at a place, by what the field reads as
+abbrev pub at_place : {A : Type 0} → ℕ → List ℕ → Option A → Result A Wrong
+at_place place [] number = Err (Missing place)
+at_place place (c ∷ s) number = ok_or number (NotANumber place)
 
--- the signed number of the field at a place, and the number of one that takes no minus
+-- a signed number, and one that takes no minus
 abbrev pub signed_at : ℕ → List ℕ → Result ℤ Wrong
-signed_at place [] = Err (Missing place)
-signed_at place (c ∷ s) = ok_or (signed_numeral (c ∷ s)) (NotANumber place)
+signed_at place s = at_place place s (signed_numeral s)
 
 abbrev pub number_at : ℕ → List ℕ → Result ℕ Wrong
-number_at place [] = Err (Missing place)
-number_at place (c ∷ s) = ok_or (numeral (c ∷ s)) (NotANumber place)
+number_at place s = at_place place s (numeral s)
 
 abbrev pub nothing_left : ℕ → List ℕ → Result (Unit {0}) Wrong
 nothing_left place [] = Ok tt

@@ -1,5 +1,5 @@
 -- What a whole input says. Assumes nothing.
-use Rattle.std.specs.Prelude.{◌≡◌, ℕ, ◌+◌, List, [], ◌∷◌, ◌++◌, Ok, Err, Result}
+use Rattle.std.specs.Prelude.{◌≡◌, ℕ, ◌+◌, List, [], ◌∷◌, Ok, Err, Result}
 use Rattle.peak_rent.specs.declared.hour.Hour.{Hour}
 use Rattle.text.specs.Cuts.{lines}
 use Rattle.rent_input.specs.declared.faults.Wrong.{Wrong}
@@ -7,7 +7,8 @@ use Rattle.rent_input.specs.declared.faults.Wrong.TheVariants.{Missing}
 use Rattle.rent_input.specs.declared.faults.Fault.{Fault}
 use Rattle.rent_input.specs.declared.faults.Failure.{Failure}
 use Rattle.rent_input.specs.declared.faults.Failure.TheVariants.{Unreadable, NoMemory}
-use Rattle.rent_input.specs.Lines.{then, hour_of, peak_of}
+use Rattle.text.specs.Formats.{then}
+use Rattle.rent_input.specs.Lines.{hour_of, peak_of}
 
 -- a fault is told with its line
 abbrev pub on_line : {A : Type 0} → ℕ → Result A Wrong → Result A Fault
@@ -36,9 +37,3 @@ Failed want NoMemory = Unit {0}
 abbrev pub Told : {A X : Type 0} → (A → X) → Result X Fault → Result A Failure → Type 0
 Told view want (Ok x) = want ≡ Ok (view x)
 Told view want (Err e) = Failed want e
-
--- an hour was pushed after the others
-abbrev pub Pushed : Result Hour Fault → List Hour → List Hour → Result (Unit {0}) Failure → Type 0
-Pushed want hours after (Err e) = Failed want e
-Pushed (Ok hour) hours after (Ok u) = after ≡ hours ++ hour ∷ []
-Pushed (Err f) hours after (Ok u) = ⊥

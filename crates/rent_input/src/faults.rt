@@ -1,5 +1,5 @@
 ghost use Rattle.std.specs.Prelude.{◌≡◌};
-ghost use Rattle.rent_input.specs.declared.faults.Failure.TheVariants.{NoMemory};
+ghost use Rattle.rent_input.specs.declared.faults.Failure.TheVariants.{Unreadable, NoMemory};
 
 use std::alloc::AllocFailed;
 
@@ -26,6 +26,14 @@ pub struct Fault {
 pub enum Failure {
     Unreadable(Fault),
     NoMemory,
+}
+
+impl From<Fault> for Failure {
+    ghost from_gives = { λ fault r. r ≡ Unreadable fault };
+
+    fn from(fault: Fault) -> Failure {
+        Failure::Unreadable(fault)
+    }
 }
 
 impl<T: Drop> From<AllocFailed<T>> for Failure {

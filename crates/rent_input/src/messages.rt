@@ -1,9 +1,14 @@
 // What the program says of an input.
-use crate::faults::{Fault, Wrong};
+ghost use Rattle.std.specs.Prelude.{Some};
+ghost use Rattle.rent_input.specs.Messages.{wrong_text, fault_text, failure_text, report_text};
+
+use crate::faults::{Failure, Fault, Wrong};
 use crate::report::Report;
 use std::fmt;
 
 impl fmt::Display for Wrong {
+    ghost output = { λ wrong. Some (wrong_text wrong) };
+
     fn fmt<W: fmt::Write>(&self, f: &mut fmt::Formatter<W>) -> fmt::Result {
         match self {
             Wrong::Missing(place) => write!(f, "field {place} is missing"),
@@ -16,6 +21,8 @@ impl fmt::Display for Wrong {
 }
 
 impl fmt::Display for Fault {
+    ghost output = { λ fault. Some (fault_text fault) };
+
     fn fmt<W: fmt::Write>(&self, f: &mut fmt::Formatter<W>) -> fmt::Result {
         let line = self.line;
         let wrong = self.wrong;
@@ -23,7 +30,20 @@ impl fmt::Display for Fault {
     }
 }
 
+impl fmt::Display for Failure {
+    ghost output = { λ failure. Some (failure_text failure) };
+
+    fn fmt<W: fmt::Write>(&self, f: &mut fmt::Formatter<W>) -> fmt::Result {
+        match self {
+            Failure::Unreadable(fault) => write!(f, "unreadable: {fault}"),
+            Failure::NoMemory => write!(f, "out of memory"),
+        }
+    }
+}
+
 impl fmt::Display for Report {
+    ghost output = { λ report. Some (report_text report) };
+
     fn fmt<W: fmt::Write>(&self, f: &mut fmt::Formatter<W>) -> fmt::Result {
         let hours = self.hours;
         let above = self.above;

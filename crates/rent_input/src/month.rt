@@ -1,12 +1,11 @@
-ghost use Rattle.text.specs.Cuts.{lines};
-ghost use Rattle.rent_input.specs.Lines.{hour_of};
-ghost use Rattle.rent_input.specs.Months.{on_line, hours_from, month_of, Told, Pushed};
+ghost use Rattle.std.specs.Prelude.{◌≡◌, ◌+◌, ◌^◌, ◌<◌, length};
+ghost use Rattle.rent_input.specs.Months.{on_line, hours_from, month_of, Told};
 
 use crate::faults::{Failure, Fault, Wrong};
 use crate::line::{hour_at, peak_at};
 use peak_rent::Hour;
 use std::alloc::Global;
-use text::cut_line;
+use text::Lines;
 
 // The hours of a month, with the system peak in megawatts.
 #[derive(Drop)]
@@ -15,49 +14,37 @@ pub struct Month {
     pub hours: Vec<Hour>,
 }
 
-// The hour on a line joins the others.
-fn push_hour(hours: &mut Vec<Hour>, n: usize, line: &[u8]) -> Result<(), Failure>
-    ensures { Pushed (on_line n (hour_of line.now)) hours.old.items hours.new.items result }
+// What is wrong with a line is a fault there.
+fn on_line<T>(line: usize, read: Result<T, Wrong>) -> Result<T, Fault>
+    ensures { result ≡ on_line line read }
 {
-    match hour_at(line) {
-        Ok(hour) => {
-            hours.push(hour)?;
-            Ok(())
-        }
-        Err(wrong) => Err(Failure::Unreadable(Fault { line: n, wrong })),
-    }
+    read.map_err(|wrong| Fault { line, wrong })
 }
 
-// The hours of a text whose first line is the second of the input.
-fn read_hours(heap: Global, text: &[u8]) -> Result<Vec<Hour>, Failure>
-    ensures { Told (λ hours. hours.items) (hours_from 2 (lines text.now)) result }
+// The hours on the lines after the first.
+#[tactic(auto, using(crate::proofs::Hours::hour_read, crate::proofs::Hours::hour_faulty, crate::proofs::Hours::hours_end))]
+fn read_hours(heap: Global, lines: Lines<'_>) -> Result<Vec<Hour>, Failure>
+    requires { length lines + 2 < 2 ^ 64 }
+    ensures { Told (λ hours. hours.items) (hours_from 2 lines.entry) result }
 {
     let mut hours = Vec::new(heap);
-    let mut rest = text;
-    let mut n = 2;
-    while !rest.is_empty() {
-        let (line, below) = cut_line(rest);
-        push_hour(&mut hours, n, line)?;
-        rest = below;
-        n += 1;
+    for (before, line) in lines.enumerate() {
+        hours.push(on_line(before + 2, hour_at(line))?)?;
     }
     Ok(hours)
 }
 
 // Reads a whole input: the peak on its first line, and an hour on each of the others.
+#[tactic(auto, unfolding(crate::specs::Months::month_of))]
 pub fn read_month(heap: Global, text: &[u8]) -> Result<Month, Failure>
     ensures { Told (λ month. (month.peak, month.hours.items)) (month_of text.now) result }
 {
-    if text.is_empty() {
-        let wrong = Wrong::Missing(1);
-        return Err(Failure::Unreadable(Fault { line: 1, wrong }));
-    }
-    let (line, below) = cut_line(text);
-    match peak_at(line) {
-        Ok(peak) => {
-            let hours = read_hours(heap, below)?;
-            Ok(Month { peak, hours })
-        }
-        Err(wrong) => Err(Failure::Unreadable(Fault { line: 1, wrong })),
-    }
+    let mut lines = Lines::new(text);
+    let first = lines.next().ok_or(Fault {
+        line: 1,
+        wrong: Wrong::Missing(1),
+    })?;
+    let peak = on_line(1, peak_at(first))?;
+    let hours = read_hours(heap, lines)?;
+    Ok(Month { peak, hours })
 }

@@ -1,7 +1,9 @@
 -- No call moves the position, the payment or the deduction of a month that has begun.
-use Rattle.std.proofs.Common.{◌≡◌, ℕ, false, List, [], ◌∷◌, length, ℤ, nat_abs, Ok, refl, ◌∙◌, arith}
+use Rattle.std.proofs.Common.{◌≡◌, ℕ, false, List, [], ◌∷◌, length, nat_abs, Ok, refl, ◌∙◌, arith}
 use Rattle.readings.specs.Table.{Table}
 use Rattle.rules.specs.declared.refusal.Refusal.TheVariants.{TradesFull}
+use Rattle.rules.specs.declared.rows.Auction.{Auction}
+use Rattle.rules.specs.declared.rows.Bilateral.{Bilateral}
 use Rattle.rules.specs.declared.rows.Resource.{Resource}
 use Rattle.rules.specs.declared.rows.Stage.{Stage}
 use Rattle.rules.specs.declared.rows.Stage.TheVariants.{SetUp, Running, Closed}
@@ -50,30 +52,30 @@ module _ (l : Ledger) (m : ℕ) (b : Begun l m) where
     deducted = deducted_stays l.standing rs x e m off l.rents;
   }
 
-  bilateral_fixed : (s a first last q price : ℕ) → Then l m (bilateral_call l s a first last q price)
-  bilateral_fixed s a first last q price =
+  bilateral_fixed : (t : Bilateral) → Then l m (bilateral_call l t)
+  bilateral_fixed t =
       through_in (Then l m) l (room_test 128 (length l.standing.trades) TradesFull) _ same (λ _ _.
-      through_in (Then l m) l (resource_test l.standing s) _ same (λ u e₁.
-      through_in (Then l m) l (resource_test l.standing a) _ same (λ v e₂.
-      through_in (Then l m) l (parties_test s u.zone a v.zone) _ same (λ x₃ e₃.
-      through_in (Then l m) l (months_test l.month first last) _ same (λ x₄ e₄.
-      through_in (Then l m) l (price_test price) _ same (λ _ _.
-      through_in (Then l m) l (quantity_test q) _ same (λ _ _.
-      through_in (Then l m) l (position_test (shedding first last q) u.row) _ same (λ less _.
-      through_in (Then l m) l (position_test (acquiring first last q) v.row) _ same (λ more _.
-      trade_fixed _ _ (both_rows l s a u v less more (found_by l s u e₁) (found_by l a v e₂) (two_parties s u.zone a v.zone x₃ e₃).0)
-      (not_running first last m l.month (first_later l first last x₄ e₄) b.high))))))))))
+      through_in (Then l m) l (resource_test l.standing t.shedder) _ same (λ u e₁.
+      through_in (Then l m) l (resource_test l.standing t.acquirer) _ same (λ v e₂.
+      through_in (Then l m) l (parties_test t.shedder u.zone t.acquirer v.zone) _ same (λ x₃ e₃.
+      through_in (Then l m) l (months_test l.month t.first t.last) _ same (λ x₄ e₄.
+      through_in (Then l m) l (price_test t.price) _ same (λ _ _.
+      through_in (Then l m) l (quantity_test t.quantity) _ same (λ _ _.
+      through_in (Then l m) l (position_test (shedding t) u.row) _ same (λ less _.
+      through_in (Then l m) l (position_test (acquiring t) v.row) _ same (λ more _.
+      trade_fixed _ _ (both_rows l t.shedder t.acquirer u v less more (found_by l t.shedder u e₁) (found_by l t.acquirer v e₂) (two_parties t.shedder u.zone t.acquirer v.zone x₃ e₃).0)
+      (not_running t.first t.last m l.month (first_later l t.first t.last x₄ e₄) b.high))))))))))
 
-  auction_fixed : (y first last : ℕ) (q : ℤ) (price : ℕ) → Then l m (auction_call l y first last q price)
-  auction_fixed y first last q price =
+  auction_fixed : (t : Auction) → Then l m (auction_call l t)
+  auction_fixed t =
       through_in (Then l m) l (room_test 128 (length l.standing.trades) TradesFull) _ same (λ _ _.
-      through_in (Then l m) l (resource_test l.standing y) _ same (λ u e₁.
-      through_in (Then l m) l (months_test l.month first last) _ same (λ x₂ e₂.
-      through_in (Then l m) l (price_test price) _ same (λ _ _.
-      through_in (Then l m) l (quantity_test (nat_abs q)) _ same (λ _ _.
-      through_in (Then l m) l (position_test (auction_change first last q) u.row) _ same (λ row _.
-      trade_fixed _ _ (one_row l.standing.resources y u row (found_by l y u e₁))
-      (not_running first last m l.month (first_later l first last x₂ e₂) b.high)))))))
+      through_in (Then l m) l (resource_test l.standing t.resource) _ same (λ u e₁.
+      through_in (Then l m) l (months_test l.month t.first t.last) _ same (λ x₂ e₂.
+      through_in (Then l m) l (price_test t.price) _ same (λ _ _.
+      through_in (Then l m) l (quantity_test (nat_abs t.quantity)) _ same (λ _ _.
+      through_in (Then l m) l (position_test (auction_change t) u.row) _ same (λ row _.
+      trade_fixed _ _ (one_row l.standing.resources t.resource u row (found_by l t.resource u e₁))
+      (not_running t.first t.last m l.month (first_later l t.first t.last x₂ e₂) b.high)))))))
 
   event_fixed : (ticket z day hour hours : ℕ) (t : Table) → Then l m (event_call l ticket z day hour hours t)
   event_fixed ticket z day hour hours t =
@@ -116,8 +118,8 @@ unfolding step
 step_fixed l m b (zone ticket price rents) = through (Then l m) l (ticket_test l SetUp ticket) _ (same l m b) (over l m b ticket)
 step_fixed l m b (resource ticket z letter cleared supplied) = through (Then l m) l (ticket_test l SetUp ticket) _ (same l m b) (over l m b ticket)
 step_fixed l m b (load ticket z obligation) = through (Then l m) l (ticket_test l SetUp ticket) _ (same l m b) (over l m b ticket)
-step_fixed l m b (bilateral s a first last q price) = bilateral_fixed l m b s a first last q price
-step_fixed l m b (auction y first last q price) = auction_fixed l m b y first last q price
+step_fixed l m b (bilateral t) = bilateral_fixed l m b t
+step_fixed l m b (auction t) = auction_fixed l m b t
 step_fixed l m b (begin ticket) = through (Then l m) l (ticket_test l SetUp ticket) _ (same l m b) (over l m b ticket)
 step_fixed l m b (event ticket z day hour hours t) = event_fixed l m b ticket z day hour hours t
 step_fixed l m b (rent ticket z amount) = rent_fixed l m b ticket z amount

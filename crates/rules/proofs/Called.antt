@@ -3,6 +3,7 @@ use Rattle.std.proofs.Common.{◌≡◌, ℕ, List, [], ◌∷◌, ◌++◌, map
 use Rattle.rules.specs.declared.entry.Entry.{Entry}
 use Rattle.rules.specs.declared.entry.Entry.TheVariants as entry
 use Rattle.rules.specs.declared.refusal.Refusal.{Refusal}
+use Rattle.rules.specs.declared.rows.Trade.TheVariants as trade
 use Rattle.rules.specs.Calls.{Answered, open_call, zone_call, resource_call, load_call, bilateral_call, auction_call}
 use Rattle.rules.specs.Chains.{then}
 use Rattle.rules.specs.Ledger.{Ledger, opened}
@@ -26,11 +27,11 @@ went_on (Err refusal) rest y e = absurd (clash refusal y e)
 
 entry_called : (e : Entry) (l new : Ledger) → enter 0 e l ≡ Ok new → step l (call_of e) ≡ new
 unfolding enter step
-entry_called (entry.Zone price rents) l new h = left (zone_call l 0 price rents) new h
-entry_called (entry.Resource z letter cleared supplied) l new h = left (resource_call l 0 z letter cleared supplied) new h
-entry_called (entry.Load z obligation) l new h = left (load_call l 0 z obligation) new h
-entry_called (entry.Bilateral a b first last q price) l new h = left (bilateral_call l a b first last q price) new h
-entry_called (entry.Auction y first last q price) l new h = left (auction_call l y first last q price) new h
+entry_called (entry.Zone z) l new h = left (zone_call l 0 z.price z.rents) new h
+entry_called (entry.Resource r) l new h = left (resource_call l 0 r.zone r.letter r.cleared r.supplied) new h
+entry_called (entry.Load k) l new h = left (load_call l 0 k.zone k.obligation) new h
+entry_called (entry.Trade (trade.Bilateral t)) l new h = left (bilateral_call l t) new h
+entry_called (entry.Trade (trade.Auction t)) l new h = left (auction_call l t) new h
 
 entries_called : (es : List Entry) (l new : Ledger) → enter_all 0 es l ≡ Ok new → after_all l (map call_of es) ≡ new
 unfolding enter_all after_all

@@ -13,7 +13,7 @@ use Rattle.rules.specs.declared.rows.Resource.{Resource}
 use Rattle.rules.specs.declared.rows.Stage.{Stage}
 use Rattle.rules.specs.declared.rows.Stage.TheVariants.{SetUp, Running, Closed}
 use Rattle.rules.specs.declared.rows.Trade.{Trade}
-use Rattle.rules.specs.declared.rows.Trade.TheVariants.{Bilateral, Auction}
+use Rattle.rules.specs.declared.rows.Trade.TheVariants as trade
 use Rattle.rules.specs.Charges.{cost, charge_weight, charge_weights, charge_at_close, charge, remainder}
 use Rattle.rules.specs.Closed.{MonthStays}
 use Rattle.rules.specs.Credits.{zone_sum, pool, weight_of, is_recipient, credit_weight, credit_weights, credit_at_close, credit, unshared}
@@ -195,13 +195,13 @@ module _ (l : Ledger) (m : ℕ) (c : closed l m ≡ true) where
 
 -- ---- a trade for later months
 abbrev pub runs_at : Trade → ℕ → Bool
-runs_at (Bilateral a b first last q p) m = runs first last m
-runs_at (Auction x first last q p) m = runs first last m
+runs_at (trade.Bilateral t) m = runs t.first t.last m
+runs_at (trade.Auction t) m = runs t.first t.last m
 
 later_nil : (x : Trade) (r m : ℕ) → runs_at x m ≡ false → (moved r m x ≡ pos 0) × (auctioned r m x ≡ pos 0) × (exchanged r m x ≡ pos 0)
 unfolding moved auctioned exchanged
-later_nil (Bilateral a b f l q p) r m e = (only_false (runs f l m) _ e, refl, only_false (runs f l m) _ e)
-later_nil (Auction x f l q p) r m e = (only_false (runs f l m) _ e, only_false (runs f l m) _ e, refl)
+later_nil (trade.Bilateral t) r m e = (only_false (runs t.first t.last m) _ e, refl, only_false (runs t.first t.last m) _ e)
+later_nil (trade.Auction t) r m e = (only_false (runs t.first t.last m) _ e, only_false (runs t.first t.last m) _ e, refl)
 
 push_nil : {X : Type 0} (f : X → ℤ) (xs : List X) (x : X) → f x ≡ pos 0 → total f (xs ++ x ∷ []) ≡ total f xs
 push_nil f xs x e = total_push f xs x ∙ ap (λ (v : ℤ). total f xs +ℤ v) e ∙ +ℤ_idr (total f xs)

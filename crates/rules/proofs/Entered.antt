@@ -7,11 +7,13 @@ use Rattle.std.proofs.lemmas.Bool.{or_parts, or_from, leb-false, ltb-false, le-l
 use Rattle.readings.specs.Table.{Table}
 use Rattle.rules.specs.declared.refusal.Refusal.{Refusal}
 use Rattle.rules.specs.declared.refusal.Refusal.TheVariants.{ZonesFull, ResourcesFull, LoadsFull, TradesFull}
+use Rattle.rules.specs.declared.rows.Auction.{Auction}
+use Rattle.rules.specs.declared.rows.Bilateral.{Bilateral}
 use Rattle.rules.specs.declared.rows.Zone.{Zone}
 use Rattle.rules.specs.declared.rows.Resource.{Resource}
 use Rattle.rules.specs.declared.rows.Load.{Load}
 use Rattle.rules.specs.declared.rows.Trade.{Trade}
-use Rattle.rules.specs.declared.rows.Trade.TheVariants.{Bilateral, Auction}
+use Rattle.rules.specs.declared.rows.Trade.TheVariants as trade
 use Rattle.rules.specs.declared.rows.Stage.TheVariants.{SetUp, Running, Closed}
 use Rattle.rules.specs.Calls.{Answered, zone_call, resource_call, load_call, bilateral_call, auction_call, begin_call, event_call, rent_call, close_call, next_call}
 use Rattle.rules.specs.Entered.{ZoneEnters, ResourceEnters, LoadEnters, as_cleared, untraded, Entered, TwelveRents}
@@ -175,36 +177,36 @@ module _ (l : Ledger) (k : EnteredIn l) where
   refused : (t : Trade) (e : Refusal) → Comes t (Err e, l)
   refused t e _ = same e
 
-  pub bilateral_entered : (a b first last q price : ℕ) → Then (bilateral_call l a b first last q price)
+  pub bilateral_entered : (x : Bilateral) → Then (bilateral_call l x)
   unfolding enter
-  bilateral_entered a b first last q price =
+  bilateral_entered x =
       through_in (Comes t) l (room_test 128 (length l.standing.trades) TradesFull) _ (refused t) (λ _ _.
-      through_in (Comes t) l (resource_test l.standing a) _ (refused t) (λ u e₁.
-      through_in (Comes t) l (resource_test l.standing b) _ (refused t) (λ v e₂.
-      through_in (Comes t) l (parties_test a u.zone b v.zone) _ (refused t) (λ x₃ e₃.
-      through_in (Comes t) l (months_test l.month first last) _ (refused t) (λ _ _.
-      through_in (Comes t) l (price_test price) _ (refused t) (λ _ _.
-      through_in (Comes t) l (quantity_test q) _ (refused t) (λ _ _.
-      through_in (Comes t) l (position_test (shedding first last q) u.row) _ (refused t) (λ less _.
-      through_in (Comes t) l (position_test (acquiring first last q) v.row) _ (refused t) (λ more _ e.
-      trade_entered _ t (both_rows l a b u v less more (found_by l a u e₁) (found_by l b v e₂) (two_parties a u.zone b v.zone x₃ e₃).0) e))))))))) refl
+      through_in (Comes t) l (resource_test l.standing x.shedder) _ (refused t) (λ u e₁.
+      through_in (Comes t) l (resource_test l.standing x.acquirer) _ (refused t) (λ v e₂.
+      through_in (Comes t) l (parties_test x.shedder u.zone x.acquirer v.zone) _ (refused t) (λ x₃ e₃.
+      through_in (Comes t) l (months_test l.month x.first x.last) _ (refused t) (λ _ _.
+      through_in (Comes t) l (price_test x.price) _ (refused t) (λ _ _.
+      through_in (Comes t) l (quantity_test x.quantity) _ (refused t) (λ _ _.
+      through_in (Comes t) l (position_test (shedding x) u.row) _ (refused t) (λ less _.
+      through_in (Comes t) l (position_test (acquiring x) v.row) _ (refused t) (λ more _ e.
+      trade_entered _ t (both_rows l x.shedder x.acquirer u v less more (found_by l x.shedder u e₁) (found_by l x.acquirer v e₂) (two_parties x.shedder u.zone x.acquirer v.zone x₃ e₃).0) e))))))))) refl
     where
       t : Trade
-      t = Bilateral a b first last q price
+      t = trade.Bilateral x
 
-  pub auction_entered : (y first last : ℕ) (q : ℤ) (price : ℕ) → Then (auction_call l y first last q price)
+  pub auction_entered : (x : Auction) → Then (auction_call l x)
   unfolding enter
-  auction_entered y first last q price =
+  auction_entered x =
       through_in (Comes t) l (room_test 128 (length l.standing.trades) TradesFull) _ (refused t) (λ _ _.
-      through_in (Comes t) l (resource_test l.standing y) _ (refused t) (λ u e₁.
-      through_in (Comes t) l (months_test l.month first last) _ (refused t) (λ _ _.
-      through_in (Comes t) l (price_test price) _ (refused t) (λ _ _.
-      through_in (Comes t) l (quantity_test (nat_abs q)) _ (refused t) (λ _ _.
-      through_in (Comes t) l (position_test (auction_change first last q) u.row) _ (refused t) (λ row _ e.
-      trade_entered _ t (one_row l.standing.resources y u row (found_by l y u e₁)) e)))))) refl
+      through_in (Comes t) l (resource_test l.standing x.resource) _ (refused t) (λ u e₁.
+      through_in (Comes t) l (months_test l.month x.first x.last) _ (refused t) (λ _ _.
+      through_in (Comes t) l (price_test x.price) _ (refused t) (λ _ _.
+      through_in (Comes t) l (quantity_test (nat_abs x.quantity)) _ (refused t) (λ _ _.
+      through_in (Comes t) l (position_test (auction_change x) u.row) _ (refused t) (λ row _ e.
+      trade_entered _ t (one_row l.standing.resources x.resource u row (found_by l x.resource u e₁)) e)))))) refl
     where
       t : Trade
-      t = Auction y first last q price
+      t = trade.Auction x
 
   -- a call of a month enters nothing that stands
   pub begin_entered : (ticket : ℕ) → Then (begin_call l ticket)
@@ -242,8 +244,8 @@ unfolding step
 step_entered l (zone ticket price rents) k = zone_entered l k ticket price rents
 step_entered l (resource ticket z letter cleared supplied) k = (resource_entered l k ticket z letter cleared supplied).entered
 step_entered l (load ticket z obligation) k = (load_entered l k ticket z obligation).entered
-step_entered l (bilateral a b first last q price) k = (bilateral_entered l k a b first last q price).entered
-step_entered l (auction y first last q price) k = (auction_entered l k y first last q price).entered
+step_entered l (bilateral t) k = (bilateral_entered l k t).entered
+step_entered l (auction t) k = (auction_entered l k t).entered
 step_entered l (begin ticket) k = (begin_entered l k ticket).entered
 step_entered l (event ticket z day hour hours t) k = (event_entered l k ticket z day hour hours t).entered
 step_entered l (rent ticket z amount) k = (rent_entered l k ticket z amount).entered

@@ -1,17 +1,23 @@
 -- What an entry that a book takes leaves: the standing entries, as they were entered, with that one more; and figures of
 -- at most eleven digits.
-use Rattle.std.proofs.Common.{◌≡◌, ℕ, zero, suc, ◌-◌, ◌^◌, ◌<◌, ◌≤◌, false, ◌||◌, ltb, leb, List, [], ◌∷◌, ◌++◌, map, length, set, ℤ, nat_abs, Some, Ok, Err, Result, sym, refl, ap, ◌∙◌, subst, append_assoc, append-nil, arith, length-set}
+use Rattle.std.proofs.Common.{◌≡◌, ℕ, zero, suc, ◌-◌, ◌^◌, ◌<◌, ◌≤◌, false, ◌||◌, ltb, leb, List, [], ◌∷◌, ◌++◌, map, length, set, nat_abs, Some, Ok, Err, Result, sym, refl, ap, ◌∙◌, subst, append_assoc, append-nil, arith, length-set}
 use Rattle.std.specs.List.{slice_get, AllByRecursion}
 use Rattle.std.proofs.lemmas.List.{map-append, map-set, length_push}
 use Rattle.std.proofs.lemmas.Bool.{ltb-false, leb-false, or_parts}
 use Rattle.rules.specs.declared.class.Class.{Class}
 use Rattle.rules.specs.declared.class.Class.TheVariants.{Generating, Import, NonIntermittentSettlementOnly, IntermittentPower, IntermittentSettlementOnly}
 use Rattle.rules.specs.declared.entry.Entry.{Entry}
-use Rattle.rules.specs.declared.entry.Entry.TheVariants.{Zone, Resource, Load, Bilateral, Auction}
+use Rattle.rules.specs.declared.entry.Entry.TheVariants.{Zone, Resource, Load, Trade}
+use Rattle.rules.specs.declared.entry.Offer.{Offer}
 use Rattle.rules.specs.declared.refusal.Refusal.{Refusal}
 use Rattle.rules.specs.declared.refusal.Refusal.TheVariants.{ZonesFull, ResourcesFull, LoadsFull, TradesFull, ClassUnknown, ResourceUnknown}
+use Rattle.rules.specs.declared.rows.Auction.{Auction}
+use Rattle.rules.specs.declared.rows.Bilateral.{Bilateral}
+use Rattle.rules.specs.declared.rows.Load.{Load as LoadRow}
 use Rattle.rules.specs.declared.rows.Resource.{Resource as Row}
 use Rattle.rules.specs.declared.rows.Stage.TheVariants.{SetUp}
+use Rattle.rules.specs.declared.rows.Trade.TheVariants as trade
+use Rattle.rules.specs.declared.rows.Zone.{Zone as ZoneRow}
 use Rattle.rules.specs.Calls.{Answered, into, open_call}
 use Rattle.rules.specs.Chains.{after, then}
 use Rattle.rules.specs.Classes.{class_of, letter_of}
@@ -50,11 +56,10 @@ pub record Grown (zs rs ks ts : List Entry) (l m : Ledger) : Type 0 where
 
 -- one entry more, of its kind
 abbrev pub Added : Entry → Ledger → Ledger → Type 0
-Added (Zone price rents) l m = Grown (Zone price rents ∷ []) [] [] [] l m
-Added (Resource z b q s) l m = Grown [] (Resource z b q s ∷ []) [] [] l m
-Added (Load z o) l m = Grown [] [] (Load z o ∷ []) [] l m
-Added (Bilateral s a f e q p) l m = Grown [] [] [] (Bilateral s a f e q p ∷ []) l m
-Added (Auction r f e q p) l m = Grown [] [] [] (Auction r f e q p ∷ []) l m
+Added (Zone z) l m = Grown (Zone z ∷ []) [] [] [] l m
+Added (Resource r) l m = Grown [] (Resource r ∷ []) [] [] l m
+Added (Load k) l m = Grown [] [] (Load k ∷ []) [] l m
+Added (Trade t) l m = Grown [] [] [] (Trade t ∷ []) l m
 
 -- no list is longer than a book allows
 pub record Few (l : Ledger) : Type 0 where
@@ -65,11 +70,11 @@ pub record Few (l : Ledger) : Type 0 where
 
 -- figures of at most eleven digits, and a capital letter
 abbrev pub Low : Entry → Type 0
-Low (Zone price rents) = (price < 10 ^ 11) × AllByRecursion (λ x. x < 10 ^ 11) rents
-Low (Resource z b q s) = (z < 10 ^ 11) × ((65 ≤ b) × (b ≤ 90)) × (q < 10 ^ 11) × (s < 10 ^ 11)
-Low (Load z o) = (z < 10 ^ 11) × (nat_abs o < 10 ^ 11)
-Low (Bilateral s a f e q p) = (s < 10 ^ 11) × (a < 10 ^ 11) × (f < 10 ^ 11) × (e < 10 ^ 11) × (q < 10 ^ 11) × (p < 10 ^ 11)
-Low (Auction r f e q p) = (r < 10 ^ 11) × (f < 10 ^ 11) × (e < 10 ^ 11) × (nat_abs q < 10 ^ 11) × (p < 10 ^ 11)
+Low (Zone z) = (z.price < 10 ^ 11) × AllByRecursion (λ x. x < 10 ^ 11) z.rents
+Low (Resource r) = (r.zone < 10 ^ 11) × ((65 ≤ r.letter) × (r.letter ≤ 90)) × (r.cleared < 10 ^ 11) × (r.supplied < 10 ^ 11)
+Low (Load k) = (k.zone < 10 ^ 11) × (nat_abs k.obligation < 10 ^ 11)
+Low (Trade (trade.Bilateral b)) = (b.shedder < 10 ^ 11) × (b.acquirer < 10 ^ 11) × (b.first < 10 ^ 11) × (b.last < 10 ^ 11) × (b.quantity < 10 ^ 11) × (b.price < 10 ^ 11)
+Low (Trade (trade.Auction a)) = (a.resource < 10 ^ 11) × (a.first < 10 ^ 11) × (a.last < 10 ^ 11) × (nat_abs a.quantity < 10 ^ 11) × (a.price < 10 ^ 11)
 
 pub record Taken (x : Entry) (l m : Ledger) : Type 0 where
   pub added : Added x l m
@@ -158,106 +163,106 @@ row_changes : (rs : List Row) (n : ℕ) (r : Row) (row : List ℕ) → numbered 
 row_changes rs n r row h = map-set resource_entry rs (n - 1) (with_row r row) ∙ numbered_set resource_entry rs n r h
 
 -- ---- each kind
-zone_taken : (ticket price : ℕ) (rents : List ℕ) (l m : Ledger) → enter ticket (Zone price rents) l ≡ Ok m → Taken (Zone price rents) l m
+zone_taken : (ticket : ℕ) (z : ZoneRow) (l m : Ledger) → enter ticket (Zone z) l ≡ Ok m → Taken (Zone z) l m
 unfolding enter
-zone_taken ticket price rents l m h =
+zone_taken ticket z l m h =
     let a = taken_after l (ticket_test l SetUp ticket) _ m h in
     let b = taken_in l (room_test 8 (length l.standing.zones) ZonesFull) _ m a.2 in
-    let c = taken_in l (price_test price) _ m b.2 in
-    let d = taken_in l (rents_test rents) _ m c.2 in
+    let c = taken_in l (price_test z.price) _ m b.2 in
+    let d = taken_in l (rents_test z.rents) _ m c.2 in
     let new = same_ok _ m d.2 in
-    subst (Taken (Zone price rents) l) new (record {
+    subst (Taken (Zone z) l) new (record {
       added = record { year = refl; peak = refl; zones = pushed zone_entry l.standing.zones _; resources = same (resources_of l); loads = same (loads_of l); trades = same (trades_of l) };
       few = λ f. record { zones = more l.standing.zones _ 8 (passed _ _ _ b.1); resources = f.resources; loads = f.loads; trades = f.trades };
-      low = λ f. (price_low price _ c.1, rents_low rents (rents_within rents _ d.1));
+      low = λ f. (price_low z.price _ c.1, rents_low z.rents (rents_within z.rents _ d.1));
     })
 
-resource_taken : (ticket z b q s : ℕ) (l m : Ledger) → enter ticket (Resource z b q s) l ≡ Ok m → Taken (Resource z b q s) l m
+resource_taken : (ticket : ℕ) (r : Offer) (l m : Ledger) → enter ticket (Resource r) l ≡ Ok m → Taken (Resource r) l m
 unfolding enter
-resource_taken ticket z b q s l m h =
+resource_taken ticket r l m h =
     let a = taken_after l (ticket_test l SetUp ticket) _ m h in
-    let c = taken_in l (zone_test l.standing z) _ m a.2 in
+    let c = taken_in l (zone_test l.standing r.zone) _ m a.2 in
     let d = taken_in l (room_test 64 (length l.standing.resources) ResourcesFull) _ m c.2 in
-    let e = taken_in l (class_test b) _ m d.2 in
-    let g = taken_in l (cleared_test q) _ m e.2 in
-    let i = taken_in l (supplied_test q s) _ m g.2 in
+    let e = taken_in l (class_test r.letter) _ m d.2 in
+    let g = taken_in l (cleared_test r.cleared) _ m e.2 in
+    let i = taken_in l (supplied_test r.cleared r.supplied) _ m g.2 in
     let new = same_ok _ m i.2 in
-    let letter = letter_known b e.0 e.1 in
+    let letter = letter_known r.letter e.0 e.1 in
     let capital = letter_low e.0 in
-    let high : q ≤ 200000 = cleared_within q _ g.1 in
-    let part : s ≤ q = supplied_within q s _ i.1 in
-    subst (Taken (Resource z b q s) l) new (record {
-      added = record { year = refl; peak = refl; zones = same (zones_of l); resources = pushed resource_entry l.standing.resources _ ∙ ap (λ y. resources_of l ++ Resource z y q s ∷ []) (sym letter); loads = same (loads_of l); trades = same (trades_of l) };
+    let high : r.cleared ≤ 200000 = cleared_within r.cleared _ g.1 in
+    let part : r.supplied ≤ r.cleared = supplied_within r.cleared r.supplied _ i.1 in
+    subst (Taken (Resource r) l) new (record {
+      added = record { year = refl; peak = refl; zones = same (zones_of l); resources = pushed resource_entry l.standing.resources _ ∙ ap (λ y. resources_of l ++ Resource (record { zone = r.zone; letter = y; cleared = r.cleared; supplied = r.supplied }) ∷ []) (sym letter); loads = same (loads_of l); trades = same (trades_of l) };
       few = λ f. record { zones = f.zones; resources = more l.standing.resources _ 64 (passed _ _ _ d.1); loads = f.loads; trades = f.trades };
-      low = λ f. (zone_low l z _ f c.1, (omega (arith, letter, capital.0), omega (arith, letter, capital.1)), omega arith, omega arith);
+      low = λ f. (zone_low l r.zone _ f c.1, (omega (arith, letter, capital.0), omega (arith, letter, capital.1)), omega arith, omega arith);
     })
 
-load_taken : (ticket z : ℕ) (o : ℤ) (l m : Ledger) → enter ticket (Load z o) l ≡ Ok m → Taken (Load z o) l m
+load_taken : (ticket : ℕ) (k : LoadRow) (l m : Ledger) → enter ticket (Load k) l ≡ Ok m → Taken (Load k) l m
 unfolding enter
-load_taken ticket z o l m h =
+load_taken ticket k l m h =
     let a = taken_after l (ticket_test l SetUp ticket) _ m h in
-    let b = taken_in l (zone_test l.standing z) _ m a.2 in
+    let b = taken_in l (zone_test l.standing k.zone) _ m a.2 in
     let c = taken_in l (room_test 32 (length l.standing.loads) LoadsFull) _ m b.2 in
-    let d = taken_in l (obligation_test o) _ m c.2 in
+    let d = taken_in l (obligation_test k.obligation) _ m c.2 in
     let new = same_ok _ m d.2 in
-    subst (Taken (Load z o) l) new (record {
+    subst (Taken (Load k) l) new (record {
       added = record { year = refl; peak = refl; zones = same (zones_of l); resources = same (resources_of l); loads = pushed load_entry l.standing.loads _; trades = same (trades_of l) };
       few = λ f. record { zones = f.zones; resources = f.resources; loads = more l.standing.loads _ 32 (passed _ _ _ c.1); trades = f.trades };
-      low = λ f. (zone_low l z _ f b.1, omega (arith, obligation_within o _ d.1));
+      low = λ f. (zone_low l k.zone _ f b.1, omega (arith, obligation_within k.obligation _ d.1));
     })
 
-auction_taken : (ticket n f e : ℕ) (q : ℤ) (p : ℕ) (l m : Ledger) → enter ticket (Auction n f e q p) l ≡ Ok m → Taken (Auction n f e q p) l m
+auction_taken : (ticket : ℕ) (t : Auction) (l m : Ledger) → enter ticket (Trade (trade.Auction t)) l ≡ Ok m → Taken (Trade (trade.Auction t)) l m
 unfolding enter
-auction_taken ticket n f e q p l m h =
+auction_taken ticket t l m h =
     let rs = l.standing.resources in
     let a = taken_in l (room_test 128 (length l.standing.trades) TradesFull) _ m h in
-    let b = taken_in l (resource_test l.standing n) _ m a.2 in
-    let c = taken_in l (months_test l.month f e) _ m b.2 in
-    let d = taken_in l (price_test p) _ m c.2 in
-    let g = taken_in l (quantity_test (nat_abs q)) _ m d.2 in
-    let i = taken_in l (position_test (auction_change f e q) b.0.row) _ m g.2 in
+    let b = taken_in l (resource_test l.standing t.resource) _ m a.2 in
+    let c = taken_in l (months_test l.month t.first t.last) _ m b.2 in
+    let d = taken_in l (price_test t.price) _ m c.2 in
+    let g = taken_in l (quantity_test (nat_abs t.quantity)) _ m d.2 in
+    let i = taken_in l (position_test (auction_change t) b.0.row) _ m g.2 in
     let new = same_ok _ m i.2 in
-    let months = months_low l.month f e _ c.1 in
-    subst (Taken (Auction n f e q p) l) new (record {
-      added = record { year = refl; peak = refl; zones = same (zones_of l); resources = row_changes rs n b.0 i.0 (resource_known l n b.0 b.1) ∙ same (resources_of l); loads = same (loads_of l); trades = pushed trade_entry l.standing.trades _ };
-      few = λ w. record { zones = w.zones; resources = subst (λ k. k ≤ 64) (sym (length-set rs (n - 1) (with_row b.0 i.0))) w.resources; loads = w.loads; trades = more l.standing.trades _ 128 (passed _ _ _ a.1) };
-      low = λ w. (resource_low l n b.0 w b.1, months.0, months.1, quantity_low (nat_abs q) _ g.1, price_low p _ d.1);
+    let months = months_low l.month t.first t.last _ c.1 in
+    subst (Taken (Trade (trade.Auction t)) l) new (record {
+      added = record { year = refl; peak = refl; zones = same (zones_of l); resources = row_changes rs t.resource b.0 i.0 (resource_known l t.resource b.0 b.1) ∙ same (resources_of l); loads = same (loads_of l); trades = pushed trade_entry l.standing.trades _ };
+      few = λ w. record { zones = w.zones; resources = subst (λ k. k ≤ 64) (sym (length-set rs (t.resource - 1) (with_row b.0 i.0))) w.resources; loads = w.loads; trades = more l.standing.trades _ 128 (passed _ _ _ a.1) };
+      low = λ w. (resource_low l t.resource b.0 w b.1, months.0, months.1, quantity_low (nat_abs t.quantity) _ g.1, price_low t.price _ d.1);
     })
 
-bilateral_taken : (ticket s n f e q p : ℕ) (l m : Ledger) → enter ticket (Bilateral s n f e q p) l ≡ Ok m → Taken (Bilateral s n f e q p) l m
+bilateral_taken : (ticket : ℕ) (t : Bilateral) (l m : Ledger) → enter ticket (Trade (trade.Bilateral t)) l ≡ Ok m → Taken (Trade (trade.Bilateral t)) l m
 unfolding enter
-bilateral_taken ticket s n f e q p l m h =
+bilateral_taken ticket t l m h =
     let rs = l.standing.resources in
     let a = taken_in l (room_test 128 (length l.standing.trades) TradesFull) _ m h in
-    let b = taken_in l (resource_test l.standing s) _ m a.2 in
-    let c = taken_in l (resource_test l.standing n) _ m b.2 in
-    let d = taken_in l (parties_test s b.0.zone n c.0.zone) _ m c.2 in
-    let g = taken_in l (months_test l.month f e) _ m d.2 in
-    let i = taken_in l (price_test p) _ m g.2 in
-    let j = taken_in l (quantity_test q) _ m i.2 in
-    let k = taken_in l (position_test (shedding f e q) b.0.row) _ m j.2 in
-    let o = taken_in l (position_test (acquiring f e q) c.0.row) _ m k.2 in
+    let b = taken_in l (resource_test l.standing t.shedder) _ m a.2 in
+    let c = taken_in l (resource_test l.standing t.acquirer) _ m b.2 in
+    let d = taken_in l (parties_test t.shedder b.0.zone t.acquirer c.0.zone) _ m c.2 in
+    let g = taken_in l (months_test l.month t.first t.last) _ m d.2 in
+    let i = taken_in l (price_test t.price) _ m g.2 in
+    let j = taken_in l (quantity_test t.quantity) _ m i.2 in
+    let k = taken_in l (position_test (shedding t) b.0.row) _ m j.2 in
+    let o = taken_in l (position_test (acquiring t) c.0.row) _ m k.2 in
     let new = same_ok _ m o.2 in
-    let months = months_low l.month f e _ g.1 in
-    let less : List Row = set rs (s - 1) (with_row b.0 k.0) in
-    let shed : map resource_entry less ≡ resources_of l = row_changes rs s b.0 k.0 (resource_known l s b.0 b.1) in
-    let both : map resource_entry (set less (n - 1) (with_row c.0 o.0)) ≡ resources_of l =
-    map-set resource_entry less (n - 1) (with_row c.0 o.0)
-    ∙ ap (λ xs. set xs (n - 1) (resource_entry c.0)) shed
-    ∙ numbered_set resource_entry rs n c.0 (resource_known l n c.0 c.1) in
-    let long : length (set less (n - 1) (with_row c.0 o.0)) ≡ length rs = length-set less (n - 1) (with_row c.0 o.0) ∙ length-set rs (s - 1) (with_row b.0 k.0) in
-    subst (Taken (Bilateral s n f e q p) l) new (record {
+    let months = months_low l.month t.first t.last _ g.1 in
+    let less : List Row = set rs (t.shedder - 1) (with_row b.0 k.0) in
+    let shed : map resource_entry less ≡ resources_of l = row_changes rs t.shedder b.0 k.0 (resource_known l t.shedder b.0 b.1) in
+    let both : map resource_entry (set less (t.acquirer - 1) (with_row c.0 o.0)) ≡ resources_of l =
+    map-set resource_entry less (t.acquirer - 1) (with_row c.0 o.0)
+    ∙ ap (λ xs. set xs (t.acquirer - 1) (resource_entry c.0)) shed
+    ∙ numbered_set resource_entry rs t.acquirer c.0 (resource_known l t.acquirer c.0 c.1) in
+    let long : length (set less (t.acquirer - 1) (with_row c.0 o.0)) ≡ length rs = length-set less (t.acquirer - 1) (with_row c.0 o.0) ∙ length-set rs (t.shedder - 1) (with_row b.0 k.0) in
+    subst (Taken (Trade (trade.Bilateral t)) l) new (record {
       added = record { year = refl; peak = refl; zones = same (zones_of l); resources = both ∙ same (resources_of l); loads = same (loads_of l); trades = pushed trade_entry l.standing.trades _ };
       few = λ w. record { zones = w.zones; resources = subst (λ y. y ≤ 64) (sym long) w.resources; loads = w.loads; trades = more l.standing.trades _ 128 (passed _ _ _ a.1) };
-      low = λ w. (resource_low l s b.0 w b.1, resource_low l n c.0 w c.1, months.0, months.1, quantity_low q _ j.1, price_low p _ i.1);
+      low = λ w. (resource_low l t.shedder b.0 w b.1, resource_low l t.acquirer c.0 w c.1, months.0, months.1, quantity_low t.quantity _ j.1, price_low t.price _ i.1);
     })
 
 pub entry_taken : (ticket : ℕ) (x : Entry) (l m : Ledger) → enter ticket x l ≡ Ok m → Taken x l m
-entry_taken ticket (Zone price rents) l m h = zone_taken ticket price rents l m h
-entry_taken ticket (Resource z b q s) l m h = resource_taken ticket z b q s l m h
-entry_taken ticket (Load z o) l m h = load_taken ticket z o l m h
-entry_taken ticket (Bilateral s n f e q p) l m h = bilateral_taken ticket s n f e q p l m h
-entry_taken ticket (Auction n f e q p) l m h = auction_taken ticket n f e q p l m h
+entry_taken ticket (Zone z) l m h = zone_taken ticket z l m h
+entry_taken ticket (Resource r) l m h = resource_taken ticket r l m h
+entry_taken ticket (Load k) l m h = load_taken ticket k l m h
+entry_taken ticket (Trade (trade.Bilateral t)) l m h = bilateral_taken ticket t l m h
+entry_taken ticket (Trade (trade.Auction t)) l m h = auction_taken ticket t l m h
 
 -- ---- entries one after another
 pub grown_none : (l : Ledger) → Grown [] [] [] [] l l

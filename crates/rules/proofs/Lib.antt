@@ -25,7 +25,6 @@ pub mod Months
 pub mod Stands
 pub mod Refused
 pub mod Classes
-pub mod Days
 pub mod Begun
 pub mod Replaying
 pub mod Rebooking

@@ -8,6 +8,8 @@ use Rattle.std.proofs.lemmas.Bool.{eqb-true}
 use Rattle.readings.specs.Table.{Table}
 use Rattle.rules.specs.declared.refusal.Refusal.{Refusal}
 use Rattle.rules.specs.declared.refusal.Refusal.TheVariants.{ZonesFull, ResourcesFull, LoadsFull, TradesFull}
+use Rattle.rules.specs.declared.rows.Auction.{Auction}
+use Rattle.rules.specs.declared.rows.Bilateral.{Bilateral}
 use Rattle.rules.specs.declared.rows.Rent.{Rent}
 use Rattle.rules.specs.declared.rows.Event.{Event}
 use Rattle.rules.specs.declared.rows.Posting.{Posting}
@@ -135,28 +137,28 @@ module _ (l : Ledger) (k : Kept l) (z m : ℕ) where
       through_in (Adds (pos 0)) l (supplied_test cleared supplied) _ (λ _. stays) (λ _ _.
       set_up_pool l.standing _ l.postings z m l.month (month_of l SetUp ticket x e k) k.sound.postings))))))
 
-  bilateral_pool : (a b first last q price : ℕ) → Adds (pos 0) (bilateral_call l a b first last q price)
-  bilateral_pool a b first last q price =
+  bilateral_pool : (t : Bilateral) → Adds (pos 0) (bilateral_call l t)
+  bilateral_pool t =
       through_in (Adds (pos 0)) l (room_test 128 (length l.standing.trades) TradesFull) _ (λ _. stays) (λ _ _.
-      through_in (Adds (pos 0)) l (resource_test l.standing a) _ (λ _. stays) (λ u e₁.
-      through_in (Adds (pos 0)) l (resource_test l.standing b) _ (λ _. stays) (λ v e₂.
-      through_in (Adds (pos 0)) l (parties_test a u.zone b v.zone) _ (λ _. stays) (λ x₃ e₃.
-      through_in (Adds (pos 0)) l (months_test l.month first last) _ (λ _. stays) (λ _ _.
-      through_in (Adds (pos 0)) l (price_test price) _ (λ _. stays) (λ _ _.
-      through_in (Adds (pos 0)) l (quantity_test q) _ (λ _. stays) (λ _ _.
-      through_in (Adds (pos 0)) l (position_test (shedding first last q) u.row) _ (λ _. stays) (λ less _.
-      through_in (Adds (pos 0)) l (position_test (acquiring first last q) v.row) _ (λ _. stays) (λ more _.
-      traded_pool l.standing _ _ l.postings z m (both_rows l a b u v less more (found_by l a u e₁) (found_by l b v e₂) (two_parties a u.zone b v.zone x₃ e₃).0))))))))))
+      through_in (Adds (pos 0)) l (resource_test l.standing t.shedder) _ (λ _. stays) (λ u e₁.
+      through_in (Adds (pos 0)) l (resource_test l.standing t.acquirer) _ (λ _. stays) (λ v e₂.
+      through_in (Adds (pos 0)) l (parties_test t.shedder u.zone t.acquirer v.zone) _ (λ _. stays) (λ x₃ e₃.
+      through_in (Adds (pos 0)) l (months_test l.month t.first t.last) _ (λ _. stays) (λ _ _.
+      through_in (Adds (pos 0)) l (price_test t.price) _ (λ _. stays) (λ _ _.
+      through_in (Adds (pos 0)) l (quantity_test t.quantity) _ (λ _. stays) (λ _ _.
+      through_in (Adds (pos 0)) l (position_test (shedding t) u.row) _ (λ _. stays) (λ less _.
+      through_in (Adds (pos 0)) l (position_test (acquiring t) v.row) _ (λ _. stays) (λ more _.
+      traded_pool l.standing _ _ l.postings z m (both_rows l t.shedder t.acquirer u v less more (found_by l t.shedder u e₁) (found_by l t.acquirer v e₂) (two_parties t.shedder u.zone t.acquirer v.zone x₃ e₃).0))))))))))
 
-  auction_pool : (y first last : ℕ) (q : ℤ) (price : ℕ) → Adds (pos 0) (auction_call l y first last q price)
-  auction_pool y first last q price =
+  auction_pool : (t : Auction) → Adds (pos 0) (auction_call l t)
+  auction_pool t =
       through_in (Adds (pos 0)) l (room_test 128 (length l.standing.trades) TradesFull) _ (λ _. stays) (λ _ _.
-      through_in (Adds (pos 0)) l (resource_test l.standing y) _ (λ _. stays) (λ u e₁.
-      through_in (Adds (pos 0)) l (months_test l.month first last) _ (λ _. stays) (λ _ _.
-      through_in (Adds (pos 0)) l (price_test price) _ (λ _. stays) (λ _ _.
-      through_in (Adds (pos 0)) l (quantity_test (nat_abs q)) _ (λ _. stays) (λ _ _.
-      through_in (Adds (pos 0)) l (position_test (auction_change first last q) u.row) _ (λ _. stays) (λ row _.
-      traded_pool l.standing _ _ l.postings z m (one_row l.standing.resources y u row (found_by l y u e₁))))))))
+      through_in (Adds (pos 0)) l (resource_test l.standing t.resource) _ (λ _. stays) (λ u e₁.
+      through_in (Adds (pos 0)) l (months_test l.month t.first t.last) _ (λ _. stays) (λ _ _.
+      through_in (Adds (pos 0)) l (price_test t.price) _ (λ _. stays) (λ _ _.
+      through_in (Adds (pos 0)) l (quantity_test (nat_abs t.quantity)) _ (λ _. stays) (λ _ _.
+      through_in (Adds (pos 0)) l (position_test (auction_change t) u.row) _ (λ _. stays) (λ row _.
+      traded_pool l.standing _ _ l.postings z m (one_row l.standing.resources t.resource u row (found_by l t.resource u e₁))))))))
 
   begin_pool : (ticket : ℕ) → Adds (pos 0) (begin_call l ticket)
   begin_pool ticket = through (Adds (pos 0)) l (ticket_test l SetUp ticket) _ (λ _. stays) (λ _ _. stays)
@@ -201,8 +203,8 @@ unfolding step answer
 step_pool l (zone ticket price rents) z m k = zone_pool l k z m ticket price rents
 step_pool l (resource ticket y letter cleared supplied) z m k = resource_pool l k z m ticket y letter cleared supplied
 step_pool l (load ticket y obligation) z m k = load_pool l k z m ticket y obligation
-step_pool l (bilateral a b first last q price) z m k = bilateral_pool l k z m a b first last q price
-step_pool l (auction y first last q price) z m k = auction_pool l k z m y first last q price
+step_pool l (bilateral t) z m k = bilateral_pool l k z m t
+step_pool l (auction t) z m k = auction_pool l k z m t
 step_pool l (begin ticket) z m k = begin_pool l k z m ticket
 step_pool l (event ticket y day hour hours t) z m k = event_call_pool l k z m ticket y day hour hours t
 step_pool l (rent ticket y amount) z m k = rent_pool l k z m ticket y amount

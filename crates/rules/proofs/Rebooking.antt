@@ -1,15 +1,17 @@
 -- A trade that was booked is booked again in set-up, whatever the zones and loads, and before resources that follow.
-use Rattle.std.proofs.Common.{◌≡◌, ℕ, zero, suc, ◌-◌, List, [], ◌∷◌, ◌++◌, map, length, set, ℤ, nat_abs, Some, Ok, Err, Result, refl, ap, ◌∙◌, arith, length-set}
+use Rattle.std.proofs.Common.{◌≡◌, ℕ, zero, suc, ◌-◌, List, [], ◌∷◌, ◌++◌, map, length, set, nat_abs, Some, Ok, Err, Result, refl, ap, ◌∙◌, arith, length-set}
 use Rattle.std.specs.Option.{ok_or}
 use Rattle.std.proofs.lemmas.List.{set-append_left}
 use Rattle.std.proofs.lemmas.Bool.{lt-leb}
 use Rattle.rules.specs.declared.refusal.Refusal.{Refusal}
 use Rattle.rules.specs.declared.refusal.Refusal.TheVariants.{TradesFull, ResourceUnknown}
+use Rattle.rules.specs.declared.rows.Auction.{Auction}
+use Rattle.rules.specs.declared.rows.Bilateral.{Bilateral}
 use Rattle.rules.specs.declared.rows.Zone.{Zone}
 use Rattle.rules.specs.declared.rows.Resource.{Resource}
 use Rattle.rules.specs.declared.rows.Load.{Load}
 use Rattle.rules.specs.declared.rows.Trade.{Trade}
-use Rattle.rules.specs.declared.rows.Trade.TheVariants.{Bilateral, Auction}
+use Rattle.rules.specs.declared.rows.Trade.TheVariants as trade
 use Rattle.rules.specs.Calls.{Answered, into, bilateral_call, auction_call}
 use Rattle.rules.specs.Chains.{after, then}
 use Rattle.rules.specs.Ledger.{Standing, Ledger}
@@ -66,34 +68,34 @@ module _ (zs : List Zone) (rs : List Resource) (ks : List Load) where
   two_set : (xs : List Resource) (n m : ℕ) (u v x y : Resource) → Found no_resource xs n u → Found no_resource xs m v → set (set (xs ++ rs) (n - 1) x) (m - 1) y ≡ set (set xs (n - 1) x) (m - 1) y ++ rs
   two_set xs n m u v x y f g = ap (λ (ys : List Resource). set ys (m - 1) y) (one_set xs n u x f) ∙ set-append_left (set xs (n - 1) x) rs (m - 1) y (omega (arith, g.low, g.high, length-set xs (n - 1) x))
 
-  bilateral_again : (l : Ledger) (a b first last q price : ℕ) → Goes grown (bilateral_call l a b first last q price) (bilateral_call (grown l) a b first last q price)
-  bilateral_again l a b first last q price =
+  bilateral_again : (l : Ledger) (t : Bilateral) → Goes grown (bilateral_call l t) (bilateral_call (grown l) t)
+  bilateral_again l t =
       both grown l (grown l) (room_test 128 (length l.standing.trades) TradesFull) _ _ _ (same _) (λ _ _.
-      both grown l (grown l) (resource_test l.standing a) _ _ _ (found_still l.standing.resources rs a) (λ u e₁.
-      both grown l (grown l) (resource_test l.standing b) _ _ _ (found_still l.standing.resources rs b) (λ v e₂.
-      both grown l (grown l) (parties_test a u.zone b v.zone) _ _ _ (same _) (λ _ _.
-      both grown l (grown l) (months_test l.month first last) _ _ _ (months_sooner l.month first last) (λ _ _.
-      both grown l (grown l) (price_test price) _ _ _ (same _) (λ _ _.
-      both grown l (grown l) (quantity_test q) _ _ _ (same _) (λ _ _.
-      both grown l (grown l) (position_test (shedding first last q) u.row) _ _ _ (same _) (λ less _.
-      both grown l (grown l) (position_test (acquiring first last q) v.row) _ _ _ (same _) (λ more _ new e.
-      grown_is _ new _ e (rw (two_set l.standing.resources a b u v (with_row u less) (with_row v more) (found_by l a u e₁) (found_by l b v e₂)) refl))))))))))
+      both grown l (grown l) (resource_test l.standing t.shedder) _ _ _ (found_still l.standing.resources rs t.shedder) (λ u e₁.
+      both grown l (grown l) (resource_test l.standing t.acquirer) _ _ _ (found_still l.standing.resources rs t.acquirer) (λ v e₂.
+      both grown l (grown l) (parties_test t.shedder u.zone t.acquirer v.zone) _ _ _ (same _) (λ _ _.
+      both grown l (grown l) (months_test l.month t.first t.last) _ _ _ (months_sooner l.month t.first t.last) (λ _ _.
+      both grown l (grown l) (price_test t.price) _ _ _ (same _) (λ _ _.
+      both grown l (grown l) (quantity_test t.quantity) _ _ _ (same _) (λ _ _.
+      both grown l (grown l) (position_test (shedding t) u.row) _ _ _ (same _) (λ less _.
+      both grown l (grown l) (position_test (acquiring t) v.row) _ _ _ (same _) (λ more _ new e.
+      grown_is _ new _ e (rw (two_set l.standing.resources t.shedder t.acquirer u v (with_row u less) (with_row v more) (found_by l t.shedder u e₁) (found_by l t.acquirer v e₂)) refl))))))))))
 
-  auction_again : (l : Ledger) (y first last : ℕ) (q : ℤ) (price : ℕ) → Goes grown (auction_call l y first last q price) (auction_call (grown l) y first last q price)
-  auction_again l y first last q price =
+  auction_again : (l : Ledger) (t : Auction) → Goes grown (auction_call l t) (auction_call (grown l) t)
+  auction_again l t =
       both grown l (grown l) (room_test 128 (length l.standing.trades) TradesFull) _ _ _ (same _) (λ _ _.
-      both grown l (grown l) (resource_test l.standing y) _ _ _ (found_still l.standing.resources rs y) (λ u e₁.
-      both grown l (grown l) (months_test l.month first last) _ _ _ (months_sooner l.month first last) (λ _ _.
-      both grown l (grown l) (price_test price) _ _ _ (same _) (λ _ _.
-      both grown l (grown l) (quantity_test (nat_abs q)) _ _ _ (same _) (λ _ _.
-      both grown l (grown l) (position_test (auction_change first last q) u.row) _ _ _ (same _) (λ row _ new e.
-      grown_is _ new _ e (rw (one_set l.standing.resources y u (with_row u row) (found_by l y u e₁)) refl)))))))
+      both grown l (grown l) (resource_test l.standing t.resource) _ _ _ (found_still l.standing.resources rs t.resource) (λ u e₁.
+      both grown l (grown l) (months_test l.month t.first t.last) _ _ _ (months_sooner l.month t.first t.last) (λ _ _.
+      both grown l (grown l) (price_test t.price) _ _ _ (same _) (λ _ _.
+      both grown l (grown l) (quantity_test (nat_abs t.quantity)) _ _ _ (same _) (λ _ _.
+      both grown l (grown l) (position_test (auction_change t) u.row) _ _ _ (same _) (λ row _ new e.
+      grown_is _ new _ e (rw (one_set l.standing.resources t.resource u (with_row u row) (found_by l t.resource u e₁)) refl)))))))
 
   -- ---- one trade, and all
   pub trade_again : (t : Trade) (l new : Ledger) → enter 0 (trade_entry t) l ≡ Ok new → enter 0 (trade_entry t) (grown l) ≡ Ok (grown new)
   unfolding enter
-  trade_again (Bilateral a b first last q price) l new e = bilateral_again l a b first last q price new e
-  trade_again (Auction y first last q price) l new e = auction_again l y first last q price new e
+  trade_again (trade.Bilateral t) l new e = bilateral_again l t new e
+  trade_again (trade.Auction t) l new e = auction_again l t new e
 
   pub trades_again : (ts : List Trade) (l new : Ledger) → enter_all 0 (map trade_entry ts) l ≡ Ok new → enter_all 0 (map trade_entry ts) (grown l) ≡ Ok (grown new)
   unfolding enter_all

@@ -29,13 +29,13 @@ changes_nothing l = record {
   load = λ t z o.
       after_stays l (ticket_test l SetUp t) _ (λ _. stays_in l (zone_test l.standing z) _ (λ _. stays_in l (room_test 32 (length l.standing.loads) LoadsFull) _ (λ _.
       stays_in l (obligation_test o) _ (λ _. tt))));
-  bilateral = λ m n f e q p.
-      stays_in l (room_test 128 (length l.standing.trades) TradesFull) _ (λ _. stays_in l (resource_test l.standing m) _ (λ s. stays_in l (resource_test l.standing n) _ (λ a.
-      stays_in l (parties_test m s.zone n a.zone) _ (λ _. stays_in l (months_test l.month f e) _ (λ _. stays_in l (price_test p) _ (λ _.
-      stays_in l (quantity_test q) _ (λ _. stays_in l (position_test (shedding f e q) s.row) _ (λ _. stays_in l (position_test (acquiring f e q) a.row) _ (λ _. tt)))))))));
-  auction = λ n f e q p.
-      stays_in l (room_test 128 (length l.standing.trades) TradesFull) _ (λ _. stays_in l (resource_test l.standing n) _ (λ r. stays_in l (months_test l.month f e) _ (λ _.
-      stays_in l (price_test p) _ (λ _. stays_in l (quantity_test (nat_abs q)) _ (λ _. stays_in l (position_test (auction_change f e q) r.row) _ (λ _. tt))))));
+  bilateral = λ t.
+      stays_in l (room_test 128 (length l.standing.trades) TradesFull) _ (λ _. stays_in l (resource_test l.standing t.shedder) _ (λ s. stays_in l (resource_test l.standing t.acquirer) _ (λ a.
+      stays_in l (parties_test t.shedder s.zone t.acquirer a.zone) _ (λ _. stays_in l (months_test l.month t.first t.last) _ (λ _. stays_in l (price_test t.price) _ (λ _.
+      stays_in l (quantity_test t.quantity) _ (λ _. stays_in l (position_test (shedding t) s.row) _ (λ _. stays_in l (position_test (acquiring t) a.row) _ (λ _. tt)))))))));
+  auction = λ t.
+      stays_in l (room_test 128 (length l.standing.trades) TradesFull) _ (λ _. stays_in l (resource_test l.standing t.resource) _ (λ r. stays_in l (months_test l.month t.first t.last) _ (λ _.
+      stays_in l (price_test t.price) _ (λ _. stays_in l (quantity_test (nat_abs t.quantity)) _ (λ _. stays_in l (position_test (auction_change t) r.row) _ (λ _. tt))))));
   begin = λ t. after_stays l (ticket_test l SetUp t) _ (λ _. tt);
   event = λ t z d h n source.
       after_stays l (ticket_test l Running t) _ (λ _. after_stays l (zone_test l.standing z) _ (λ _. after_stays l (hours_test l.year l.month d h n) _ (λ _.

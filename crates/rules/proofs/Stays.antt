@@ -1,7 +1,9 @@
 -- No call changes what a closed month answers, and a refused call changes nothing.
-use Rattle.std.proofs.Common.{◌≡◌, ℕ, ◌+◌, true, [], ◌∷◌, length, ℤ, nat_abs, Ok, refl, ◌∙◌, arith}
+use Rattle.std.proofs.Common.{◌≡◌, ℕ, ◌+◌, true, [], ◌∷◌, length, nat_abs, Ok, refl, ◌∙◌, arith}
 use Rattle.readings.specs.Table.{Table}
 use Rattle.rules.specs.declared.refusal.Refusal.TheVariants.{TradesFull}
+use Rattle.rules.specs.declared.rows.Auction.{Auction}
+use Rattle.rules.specs.declared.rows.Bilateral.{Bilateral}
 use Rattle.rules.specs.declared.rows.Stage.TheVariants.{SetUp, Running, Closed}
 use Rattle.rules.specs.Calls.{Answered, event_of, bilateral_call, auction_call, event_call, rent_call, close_call, next_call}
 use Rattle.rules.specs.Closed.{MonthStays, ClosedMonthsStay}
@@ -29,30 +31,30 @@ module _ (l : Ledger) (m : ℕ) (c : closed l m ≡ true) where
   over : {A : Type 0} (ticket : ℕ) (x : Unit {0}) → ticket_test l SetUp ticket ≡ Ok x → A
   over ticket x e = absurd (never_set_up l m c (stage_of l SetUp ticket x e))
 
-  bilateral_stays : (a b first last q price : ℕ) → Stays l m (bilateral_call l a b first last q price)
-  bilateral_stays a b first last q price =
+  bilateral_stays : (t : Bilateral) → Stays l m (bilateral_call l t)
+  bilateral_stays t =
       through_in (Stays l m) l (room_test 128 (length l.standing.trades) TradesFull) _ same (λ _ _.
-      through_in (Stays l m) l (resource_test l.standing a) _ same (λ u e₁.
-      through_in (Stays l m) l (resource_test l.standing b) _ same (λ v e₂.
-      through_in (Stays l m) l (parties_test a u.zone b v.zone) _ same (λ x₃ e₃.
-      through_in (Stays l m) l (months_test l.month first last) _ same (λ x₄ e₄.
-      through_in (Stays l m) l (price_test price) _ same (λ _ _.
-      through_in (Stays l m) l (quantity_test q) _ same (λ _ _.
-      through_in (Stays l m) l (position_test (shedding first last q) u.row) _ same (λ less _.
-      through_in (Stays l m) l (position_test (acquiring first last q) v.row) _ same (λ more _.
-      month_stays l _ m c (trade_later l m c _ _ (both_rows l a b u v less more (found_by l a u e₁) (found_by l b v e₂) (two_parties a u.zone b v.zone x₃ e₃).0)
-      (not_running first last m l.month (first_later l first last x₄ e₄) (begun l m c))))))))))))
+      through_in (Stays l m) l (resource_test l.standing t.shedder) _ same (λ u e₁.
+      through_in (Stays l m) l (resource_test l.standing t.acquirer) _ same (λ v e₂.
+      through_in (Stays l m) l (parties_test t.shedder u.zone t.acquirer v.zone) _ same (λ x₃ e₃.
+      through_in (Stays l m) l (months_test l.month t.first t.last) _ same (λ x₄ e₄.
+      through_in (Stays l m) l (price_test t.price) _ same (λ _ _.
+      through_in (Stays l m) l (quantity_test t.quantity) _ same (λ _ _.
+      through_in (Stays l m) l (position_test (shedding t) u.row) _ same (λ less _.
+      through_in (Stays l m) l (position_test (acquiring t) v.row) _ same (λ more _.
+      month_stays l _ m c (trade_later l m c _ _ (both_rows l t.shedder t.acquirer u v less more (found_by l t.shedder u e₁) (found_by l t.acquirer v e₂) (two_parties t.shedder u.zone t.acquirer v.zone x₃ e₃).0)
+      (not_running t.first t.last m l.month (first_later l t.first t.last x₄ e₄) (begun l m c))))))))))))
 
-  auction_stays : (y first last : ℕ) (q : ℤ) (price : ℕ) → Stays l m (auction_call l y first last q price)
-  auction_stays y first last q price =
+  auction_stays : (t : Auction) → Stays l m (auction_call l t)
+  auction_stays t =
       through_in (Stays l m) l (room_test 128 (length l.standing.trades) TradesFull) _ same (λ _ _.
-      through_in (Stays l m) l (resource_test l.standing y) _ same (λ u e₁.
-      through_in (Stays l m) l (months_test l.month first last) _ same (λ x₂ e₂.
-      through_in (Stays l m) l (price_test price) _ same (λ _ _.
-      through_in (Stays l m) l (quantity_test (nat_abs q)) _ same (λ _ _.
-      through_in (Stays l m) l (position_test (auction_change first last q) u.row) _ same (λ row _.
-      month_stays l _ m c (trade_later l m c _ _ (one_row l.standing.resources y u row (found_by l y u e₁))
-      (not_running first last m l.month (first_later l first last x₂ e₂) (begun l m c)))))))))
+      through_in (Stays l m) l (resource_test l.standing t.resource) _ same (λ u e₁.
+      through_in (Stays l m) l (months_test l.month t.first t.last) _ same (λ x₂ e₂.
+      through_in (Stays l m) l (price_test t.price) _ same (λ _ _.
+      through_in (Stays l m) l (quantity_test (nat_abs t.quantity)) _ same (λ _ _.
+      through_in (Stays l m) l (position_test (auction_change t) u.row) _ same (λ row _.
+      month_stays l _ m c (trade_later l m c _ _ (one_row l.standing.resources t.resource u row (found_by l t.resource u e₁))
+      (not_running t.first t.last m l.month (first_later l t.first t.last x₂ e₂) (begun l m c)))))))))
 
   event_stays : (ticket z day hour hours : ℕ) (t : Table) → Stays l m (event_call l ticket z day hour hours t)
   event_stays ticket z day hour hours t =
@@ -89,8 +91,8 @@ unfolding step
 step_stays l m c (zone ticket price rents) = through (Stays l m) l (ticket_test l SetUp ticket) _ (same l m c) (over l m c ticket)
 step_stays l m c (resource ticket z letter cleared supplied) = through (Stays l m) l (ticket_test l SetUp ticket) _ (same l m c) (over l m c ticket)
 step_stays l m c (load ticket z obligation) = through (Stays l m) l (ticket_test l SetUp ticket) _ (same l m c) (over l m c ticket)
-step_stays l m c (bilateral a b first last q price) = bilateral_stays l m c a b first last q price
-step_stays l m c (auction y first last q price) = auction_stays l m c y first last q price
+step_stays l m c (bilateral t) = bilateral_stays l m c t
+step_stays l m c (auction t) = auction_stays l m c t
 step_stays l m c (begin ticket) = through (Stays l m) l (ticket_test l SetUp ticket) _ (same l m c) (over l m c ticket)
 step_stays l m c (event ticket z day hour hours t) = event_stays l m c ticket z day hour hours t
 step_stays l m c (rent ticket z amount) = rent_stays l m c ticket z amount

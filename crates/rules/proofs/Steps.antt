@@ -4,6 +4,8 @@ use Rattle.std.specs.List.{AllByRecursion}
 use Rattle.std.proofs.lemmas.Bool.{eqb-true, eqb-false, leb-false, ltb-false, or_parts, not-false}
 use Rattle.readings.specs.Table.{Table, Lawful}
 use Rattle.rules.specs.declared.refusal.Refusal.TheVariants.{ZonesFull, ResourcesFull, LoadsFull, TradesFull, ResourceUnknown, Position}
+use Rattle.rules.specs.declared.rows.Auction.{Auction}
+use Rattle.rules.specs.declared.rows.Bilateral.{Bilateral}
 use Rattle.rules.specs.declared.rows.Resource.{Resource}
 use Rattle.rules.specs.declared.rows.Stage.TheVariants.{SetUp, Running, Closed}
 use Rattle.rules.specs.Calls.{Answered, zone_call, resource_call, load_call, bilateral_call, auction_call, begin_call, event_call, rent_call, close_call, next_call, event_of}
@@ -90,39 +92,39 @@ module _ (l : Ledger) (k : Kept l) where
       let low = cleared_within cleared y c in
       record { bounds = resource_bounded l k.bounds _ (low, supplied_within cleared supplied v d); sound = rw z (resource_enters l.standing _ l.rents l.postings low refl (rw z at k.sound)); stage = k.stage }))))))
 
-  pub bilateral_then : (a b first last q price : ℕ) → Then (bilateral_call l a b first last q price)
-  bilateral_then a b first last q price =
+  pub bilateral_then : (t : Bilateral) → Then (bilateral_call l t)
+  bilateral_then t =
       through_in Then l (room_test 128 (length l.standing.trades) TradesFull) _ (λ _. k) (λ _ _.
-      through_in Then l (resource_test l.standing a) _ (λ _. k) (λ u e₁.
-      through_in Then l (resource_test l.standing b) _ (λ _. k) (λ v e₂.
-      through_in Then l (parties_test a u.zone b v.zone) _ (λ _. k) (λ x₃ e₃.
-      through_in Then l (months_test l.month first last) _ (λ _. k) (λ x₄ e₄.
-      through_in Then l (price_test price) _ (λ _. k) (λ x₇ e₇.
-      through_in Then l (quantity_test q) _ (λ _. k) (λ x₈ e₈.
-      through_in Then l (position_test (shedding first last q) u.row) _ (λ _. k) (λ less e₅.
-      through_in Then l (position_test (acquiring first last q) v.row) _ (λ _. k) (λ more e₆.
-      let p = two_parties a u.zone b v.zone x₃ e₃ in
-      let f = found_by l a u e₁ in
-      let g = found_by l b v e₂ in
+      through_in Then l (resource_test l.standing t.shedder) _ (λ _. k) (λ u e₁.
+      through_in Then l (resource_test l.standing t.acquirer) _ (λ _. k) (λ v e₂.
+      through_in Then l (parties_test t.shedder u.zone t.acquirer v.zone) _ (λ _. k) (λ x₃ e₃.
+      through_in Then l (months_test l.month t.first t.last) _ (λ _. k) (λ x₄ e₄.
+      through_in Then l (price_test t.price) _ (λ _. k) (λ x₇ e₇.
+      through_in Then l (quantity_test t.quantity) _ (λ _. k) (λ x₈ e₈.
+      through_in Then l (position_test (shedding t) u.row) _ (λ _. k) (λ less e₅.
+      through_in Then l (position_test (acquiring t) v.row) _ (λ _. k) (λ more e₆.
+      let p = two_parties t.shedder u.zone t.acquirer v.zone x₃ e₃ in
+      let f = found_by l t.shedder u e₁ in
+      let g = found_by l t.acquirer v e₂ in
       record {
-        bounds = trade_bounded l k.bounds _ _ (row_bounded l k.bounds _ _ v more (row_bounded l k.bounds _ _ u less k.bounds.resources (found_bounded l.standing l.rents a u k.bounds f)) (found_bounded l.standing l.rents b v k.bounds g)) (quantity_within q x₈ e₈, price_within price x₇ e₇);
-        sound = bilateral_kept l k a b first last q price u v less more f g p.0 p.1 (first_later l first last x₄ e₄)
-            (given (changed_row (shedding first last q) u.row) Position less e₅) (given (changed_row (acquiring first last q) v.row) Position more e₆);
+        bounds = trade_bounded l k.bounds _ _ (row_bounded l k.bounds _ _ v more (row_bounded l k.bounds _ _ u less k.bounds.resources (found_bounded l.standing l.rents t.shedder u k.bounds f)) (found_bounded l.standing l.rents t.acquirer v k.bounds g)) (quantity_within t.quantity x₈ e₈, price_within t.price x₇ e₇);
+        sound = bilateral_kept l k t u v less more f g p.0 p.1 (first_later l t.first t.last x₄ e₄)
+            (given (changed_row (shedding t) u.row) Position less e₅) (given (changed_row (acquiring t) v.row) Position more e₆);
         stage = k.stage;
       })))))))))
 
-  pub auction_then : (y first last : ℕ) (q : ℤ) (price : ℕ) → Then (auction_call l y first last q price)
-  auction_then y first last q price =
+  pub auction_then : (t : Auction) → Then (auction_call l t)
+  auction_then t =
       through_in Then l (room_test 128 (length l.standing.trades) TradesFull) _ (λ _. k) (λ _ _.
-      through_in Then l (resource_test l.standing y) _ (λ _. k) (λ u e₁.
-      through_in Then l (months_test l.month first last) _ (λ _. k) (λ x₂ e₂.
-      through_in Then l (price_test price) _ (λ _. k) (λ x₄ e₄.
-      through_in Then l (quantity_test (nat_abs q)) _ (λ _. k) (λ x₅ e₅.
-      through_in Then l (position_test (auction_change first last q) u.row) _ (λ _. k) (λ row e₃.
-      let f = found_by l y u e₁ in
+      through_in Then l (resource_test l.standing t.resource) _ (λ _. k) (λ u e₁.
+      through_in Then l (months_test l.month t.first t.last) _ (λ _. k) (λ x₂ e₂.
+      through_in Then l (price_test t.price) _ (λ _. k) (λ x₄ e₄.
+      through_in Then l (quantity_test (nat_abs t.quantity)) _ (λ _. k) (λ x₅ e₅.
+      through_in Then l (position_test (auction_change t) u.row) _ (λ _. k) (λ row e₃.
+      let f = found_by l t.resource u e₁ in
       record {
-        bounds = trade_bounded l k.bounds _ _ (row_bounded l k.bounds _ _ u row k.bounds.resources (found_bounded l.standing l.rents y u k.bounds f)) (quantity_within (nat_abs q) x₅ e₅, price_within price x₄ e₄);
-        sound = auction_kept l k y first last q price u row f (first_later l first last x₂ e₂) (given (changed_row (auction_change first last q) u.row) Position row e₃);
+        bounds = trade_bounded l k.bounds _ _ (row_bounded l k.bounds _ _ u row k.bounds.resources (found_bounded l.standing l.rents t.resource u k.bounds f)) (quantity_within (nat_abs t.quantity) x₅ e₅, price_within t.price x₄ e₄);
+        sound = auction_kept l k t u row f (first_later l t.first t.last x₂ e₂) (given (changed_row (auction_change t) u.row) Position row e₃);
         stage = k.stage;
       }))))))
 
@@ -167,8 +169,8 @@ unfolding step
 step_kept l (zone ticket price rents) w k = zone_kept l k ticket price rents
 step_kept l (resource ticket z letter cleared supplied) w k = resource_kept l k ticket z letter cleared supplied
 step_kept l (load ticket z obligation) w k = load_kept l k ticket z obligation
-step_kept l (bilateral a b first last q price) w k = bilateral_then l k a b first last q price
-step_kept l (auction y first last q price) w k = auction_then l k y first last q price
+step_kept l (bilateral t) w k = bilateral_then l k t
+step_kept l (auction t) w k = auction_then l k t
 step_kept l (begin ticket) w k = begin_kept l k ticket
 step_kept l (event ticket z day hour hours t) w k = event_kept l k ticket z day hour hours t w
 step_kept l (rent ticket z amount) w k = rent_kept l k ticket z amount

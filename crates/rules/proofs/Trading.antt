@@ -4,14 +4,16 @@ use borrow.Author.Differences.{ints}
 use lib.IntN.{+ℤ_idr, +ℤ_assoc}
 use Rattle.std.proofs.ByRecursion.{All-push, All-weaker}
 use Rattle.std.proofs.lemmas.Bool.{eq-eqb, ne_eqb, lt-leb, and_left, cases_eq}
+use Rattle.rules.specs.declared.rows.Auction.{Auction}
+use Rattle.rules.specs.declared.rows.Bilateral.{Bilateral}
 use Rattle.rules.specs.declared.rows.Resource.{Resource}
 use Rattle.rules.specs.declared.rows.Trade.{Trade}
-use Rattle.rules.specs.declared.rows.Trade.TheVariants.{Bilateral, Auction}
+use Rattle.rules.specs.declared.rows.Trade.TheVariants as trade
 use Rattle.rules.specs.declared.rows.Change.{Change}
 use Rattle.rules.specs.declared.rows.Rent.{Rent}
 use Rattle.rules.specs.declared.rows.Posting.{Posting}
 use Rattle.rules.specs.Ledger.{Standing, resource_of, zone_of, price_of}
-use Rattle.rules.specs.Positions.{runs, moved, position, annual, row_at, covers, changed_row, auction_change, with_row}
+use Rattle.rules.specs.Positions.{runs, moved, position, annual, row_at, covers, changed_row, acquired_of, shed_of, with_row}
 use Rattle.rules.specs.Rents.{mean_rent, exposed, deduction, deductions_since_june}
 use Rattle.rules.specs.Rows.{row_of, no_resource, no_zone}
 use Rattle.rules.specs.Sums.{Known, RowRight}
@@ -82,8 +84,8 @@ module _ (s : Standing) (rs : List Resource) (x : Trade) (same : SameButRows s.r
   known_before r k = record { low = k.low; high = rw same.count at k.high }
 
   trade_stays : (t : Trade) → TradeSound s t → TradeSound (traded s rs x) t
-  trade_stays (Bilateral a b f l q p) h = (known_stays a h.0, known_stays b h.1, zone_stays a ∙ h.2 ∙ sym (zone_stays b))
-  trade_stays (Auction r f l q p) h = known_stays r h
+  trade_stays (trade.Bilateral t) h = (known_stays t.shedder h.0, known_stays t.acquirer h.1, zone_stays t.shedder ∙ h.2 ∙ sym (zone_stays t.acquirer))
+  trade_stays (trade.Auction t) h = known_stays t.resource h
 
   -- ---- a month in which the trade moves nothing
   module _ (r m : ℕ) (e : position (traded s rs x) r m ≡ position s r m) where
@@ -146,31 +148,34 @@ pub not_running : (first last m b : ℕ) → b < first → m ≤ b → runs firs
 unfolding runs
 not_running first last m b h k = and_left (leb first m) (leb m last) (lt-leb first m (omega arith))
 
-pub no_move : (r m a b first last q price : ℕ) → runs first last m ≡ false → moved r m (Bilateral a b first last q price) ≡ pos 0
+pub no_move : (r m : ℕ) (t : Bilateral) → runs t.first t.last m ≡ false → moved r m (trade.Bilateral t) ≡ pos 0
 unfolding moved
-no_move r m a b first last q price e = only_false (runs first last m) _ e
+no_move r m t e = only_false (runs t.first t.last m) _ e
 
-pub no_auction : (r m y first last : ℕ) (q : ℤ) (price : ℕ) → runs first last m ≡ false → moved r m (Auction y first last q price) ≡ pos 0
+pub no_auction : (r m : ℕ) (t : Auction) → runs t.first t.last m ≡ false → moved r m (trade.Auction t) ≡ pos 0
 unfolding moved
-no_auction r m y first last q price e = only_false (runs first last m) _ e
+no_auction r m t e = only_false (runs t.first t.last m) _ e
 
-pub no_part : (r m a b first last q price : ℕ) → (a ≡ r → ⊥) → (b ≡ r → ⊥) → moved r m (Bilateral a b first last q price) ≡ pos 0
+pub no_part : (r m : ℕ) (t : Bilateral) → (t.shedder ≡ r → ⊥) → (t.acquirer ≡ r → ⊥) → moved r m (trade.Bilateral t) ≡ pos 0
 unfolding moved
-no_part r m a b first last q price n n' = rw (ne_eqb b r n', ne_eqb a r n, only_false false (pos q) refl, only_nil (runs first last m)) refl
+no_part r m t n n' = rw (ne_eqb t.acquirer r n', ne_eqb t.shedder r n, only_false false (pos t.quantity) refl, only_nil (runs t.first t.last m)) refl
 
-pub no_bid : (r m y first last : ℕ) (q : ℤ) (price : ℕ) → (y ≡ r → ⊥) → moved r m (Auction y first last q price) ≡ pos 0
+pub no_bid : (r m : ℕ) (t : Auction) → (t.resource ≡ r → ⊥) → moved r m (trade.Auction t) ≡ pos 0
 unfolding moved
-no_bid r m y first last q price n = rw (ne_eqb y r n, only_false false q refl, only_nil (runs first last m)) refl
+no_bid r m t n = rw (ne_eqb t.resource r n, only_false false t.quantity refl, only_nil (runs t.first t.last m)) refl
 
-pub shed_moves : (m a b first last q price : ℕ) → (a ≡ b → ⊥) → moved a m (Bilateral a b first last q price) ≡ only (runs first last m) (pos 0 -ℤ pos q)
+pub shed_moves : (m : ℕ) (t : Bilateral) → (t.shedder ≡ t.acquirer → ⊥) → moved t.shedder m (trade.Bilateral t) ≡ only (runs t.first t.last m) (pos 0 -ℤ pos t.quantity)
 unfolding moved
-shed_moves m a b first last q price n = rw (ne_eqb b a (λ e. n (sym e)), eq-eqb a a refl, only_false false (pos q) refl, only_true true (pos q) refl) refl
+shed_moves m t n = rw (ne_eqb t.acquirer t.shedder (λ e. n (sym e)), eq-eqb t.shedder t.shedder refl, only_false false (pos t.quantity) refl, only_true true (pos t.quantity) refl) refl
 
-pub acquired_moves : (m a b first last q price : ℕ) → (a ≡ b → ⊥) → moved b m (Bilateral a b first last q price) ≡ only (runs first last m) (pos q -ℤ pos 0)
+pub acquired_moves : (m : ℕ) (t : Bilateral) → (t.shedder ≡ t.acquirer → ⊥) → moved t.acquirer m (trade.Bilateral t) ≡ only (runs t.first t.last m) (pos t.quantity -ℤ pos 0)
 unfolding moved
-acquired_moves m a b first last q price n = rw (ne_eqb a b n, eq-eqb b b refl, only_false false (pos q) refl, only_true true (pos q) refl) refl
+acquired_moves m t n = rw (ne_eqb t.shedder t.acquirer n, eq-eqb t.acquirer t.acquirer refl, only_false false (pos t.quantity) refl, only_true true (pos t.quantity) refl) refl
 
-pub auction_moves : (m y first last : ℕ) (q : ℤ) (price : ℕ) → moved y m (Auction y first last q price) ≡ only (runs (auction_change first last q).first (auction_change first last q).last m) (pos (auction_change first last q).acquired -ℤ pos (auction_change first last q).shed)
+acquired_less_shed : (q : ℤ) → q ≡ pos (acquired_of q) -ℤ pos (shed_of q)
+acquired_less_shed (pos n) = omega (arith, ints)
+acquired_less_shed (negsuc n) = omega (arith, ints)
+
+pub auction_moves : (m : ℕ) (t : Auction) → moved t.resource m (trade.Auction t) ≡ only (runs t.first t.last m) (pos (acquired_of t.quantity) -ℤ pos (shed_of t.quantity))
 unfolding moved
-auction_moves m y first last (pos q) price = rw (eq-eqb y y refl, only_true true (pos q) refl) (ap (only (runs first last m)) (omega (arith, ints)))
-auction_moves m y first last (negsuc q) price = rw (eq-eqb y y refl, only_true true (negsuc q) refl) (ap (only (runs first last m)) (omega (arith, ints)))
+auction_moves m t = rw (eq-eqb t.resource t.resource refl, only_true true t.quantity refl) (ap (only (runs t.first t.last m)) (acquired_less_shed t.quantity))

@@ -3,6 +3,8 @@
 use Rattle.std.specs.Prelude.{ℕ, ◌+◌, List, ℤ, Ok, Err, Result}
 use Rattle.readings.specs.Table.{Table}
 use Rattle.rules.specs.declared.refusal.Refusal.{Refusal}
+use Rattle.rules.specs.declared.rows.Auction.{Auction}
+use Rattle.rules.specs.declared.rows.Bilateral.{Bilateral}
 use Rattle.rules.specs.declared.rows.Event.{Event}
 use Rattle.rules.specs.declared.rows.Posting.{Posting}
 use Rattle.rules.specs.declared.rows.Stage.TheVariants.{SetUp, Running, Closed}
@@ -44,11 +46,11 @@ abbrev pub load_call : Ledger → ℕ → ℕ → ℤ → Answered ℕ Refusal
 load_call l ticket zone obligation = after l (ticket_test l SetUp ticket) (λ _. into l (enter_load l.standing zone obligation))
 
 -- ---- trades, with no ticket, for months after the one that the book has come to
-abbrev pub bilateral_call : Ledger → ℕ → ℕ → ℕ → ℕ → ℕ → ℕ → Answered ℕ Refusal
-bilateral_call l shedder acquirer first last quantity price = into l (book_bilateral l.standing l.month shedder acquirer first last quantity price)
+abbrev pub bilateral_call : Ledger → Bilateral → Answered ℕ Refusal
+bilateral_call l b = into l (book_bilateral l.standing l.month b)
 
-abbrev pub auction_call : Ledger → ℕ → ℕ → ℕ → ℤ → ℕ → Answered ℕ Refusal
-auction_call l resource first last quantity price = into l (book_auction l.standing l.month resource first last quantity price)
+abbrev pub auction_call : Ledger → Auction → Answered ℕ Refusal
+auction_call l a = into l (book_auction l.standing l.month a)
 
 -- ---- steps; the answer is the month of the next ticket
 -- June begins.

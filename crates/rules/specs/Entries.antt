@@ -3,7 +3,9 @@
 use Rattle.std.specs.Prelude.{ℕ, ◌+◌, ◌-◌, List, length, replicate, ℤ, Result, slice_set, unsigned_abs}
 use Rattle.rules.specs.declared.refusal.Refusal.{Refusal}
 use Rattle.rules.specs.declared.refusal.Refusal.TheVariants.{ZonesFull, ResourcesFull, LoadsFull, TradesFull}
-use Rattle.rules.specs.declared.rows.Trade.TheVariants.{Auction, Bilateral}
+use Rattle.rules.specs.declared.rows.Auction.{Auction}
+use Rattle.rules.specs.declared.rows.Bilateral.{Bilateral}
+use Rattle.rules.specs.declared.rows.Trade.TheVariants as trade
 use Rattle.rules.specs.Chains.{after, accept}
 use Rattle.rules.specs.Ledger.{Standing, more_zone, more_resource, more_load, more_trade}
 use Rattle.rules.specs.Positions.{shedding, acquiring, auction_change, with_row}
@@ -37,30 +39,30 @@ enter_load s zone obligation =
     accept (length s.loads + 1) (more_load s (record { zone = zone; obligation = obligation })))))
 
 -- The shedder's position goes over to an acquirer of the same zone, once the book has come to `month`.
-abbrev pub book_bilateral : Standing → ℕ → ℕ → ℕ → ℕ → ℕ → ℕ → ℕ → Result ℕ Refusal × Standing
-book_bilateral s month shedder acquirer first last quantity price =
+abbrev pub book_bilateral : Standing → ℕ → Bilateral → Result ℕ Refusal × Standing
+book_bilateral s month b =
     after s (room_test 128 (length s.trades) TradesFull) (λ _.
-    after s (resource_test s shedder) (λ from.
-    after s (resource_test s acquirer) (λ to.
-    after s (parties_test shedder from.zone acquirer to.zone) (λ _.
-    after s (months_test month first last) (λ _.
-    after s (price_test price) (λ _.
-    after s (quantity_test quantity) (λ _.
-    after s (position_test (shedding first last quantity) from.row) (λ less.
-    after s (position_test (acquiring first last quantity) to.row) (λ more.
+    after s (resource_test s b.shedder) (λ from.
+    after s (resource_test s b.acquirer) (λ to.
+    after s (parties_test b.shedder from.zone b.acquirer to.zone) (λ _.
+    after s (months_test month b.first b.last) (λ _.
+    after s (price_test b.price) (λ _.
+    after s (quantity_test b.quantity) (λ _.
+    after s (position_test (shedding b) from.row) (λ less.
+    after s (position_test (acquiring b) to.row) (λ more.
     accept (length s.trades + 1)
     (more_trade s
-    (slice_set (slice_set s.resources (shedder - 1) (with_row from less)) (acquirer - 1) (with_row to more))
-    (Bilateral shedder acquirer first last quantity price)))))))))))
+    (slice_set (slice_set s.resources (b.shedder - 1) (with_row from less)) (b.acquirer - 1) (with_row to more))
+    (trade.Bilateral b)))))))))))
 
 -- A resource acquires or sheds in an auction.
-abbrev pub book_auction : Standing → ℕ → ℕ → ℕ → ℕ → ℤ → ℕ → Result ℕ Refusal × Standing
-book_auction s month resource first last quantity price =
+abbrev pub book_auction : Standing → ℕ → Auction → Result ℕ Refusal × Standing
+book_auction s month a =
     after s (room_test 128 (length s.trades) TradesFull) (λ _.
-    after s (resource_test s resource) (λ r.
-    after s (months_test month first last) (λ _.
-    after s (price_test price) (λ _.
-    after s (quantity_test (unsigned_abs quantity)) (λ _.
-    after s (position_test (auction_change first last quantity) r.row) (λ row.
+    after s (resource_test s a.resource) (λ r.
+    after s (months_test month a.first a.last) (λ _.
+    after s (price_test a.price) (λ _.
+    after s (quantity_test (unsigned_abs a.quantity)) (λ _.
+    after s (position_test (auction_change a) r.row) (λ row.
     accept (length s.trades + 1)
-    (more_trade s (slice_set s.resources (resource - 1) (with_row r row)) (Auction resource first last quantity price))))))))
+    (more_trade s (slice_set s.resources (a.resource - 1) (with_row r row)) (trade.Auction a))))))))

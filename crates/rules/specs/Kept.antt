@@ -5,7 +5,7 @@ use Rattle.rules.specs.declared.rows.Zone.{Zone}
 use Rattle.rules.specs.declared.rows.Resource.{Resource}
 use Rattle.rules.specs.declared.rows.Load.{Load}
 use Rattle.rules.specs.declared.rows.Trade.{Trade}
-use Rattle.rules.specs.declared.rows.Trade.TheVariants.{Bilateral, Auction}
+use Rattle.rules.specs.declared.rows.Trade.TheVariants as trade
 use Rattle.rules.specs.declared.rows.Rent.{Rent}
 use Rattle.rules.specs.declared.rows.Posting.{Posting}
 use Rattle.rules.specs.declared.rows.Stage.{Stage}
@@ -19,8 +19,8 @@ use Rattle.rules.specs.Totals.{◌÷◌}
 
 -- the parties of a trade are resources of the book, those of a bilateral of one zone
 abbrev pub TradeSound : Standing → Trade → Type 0
-TradeSound s (Bilateral a b f l q p) = Known s a × Known s b × (zone_of s a ≡ zone_of s b)
-TradeSound s (Auction r f l q p) = Known s r
+TradeSound s (trade.Bilateral b) = Known s b.shedder × Known s b.acquirer × (zone_of s b.shedder ≡ zone_of s b.acquirer)
+TradeSound s (trade.Auction a) = Known s a.resource
 
 -- a posting is of a resource of the book, and of a month that has begun
 pub record PostingSound (s : Standing) (b : ℕ) (p : Posting) : Type 0 where
@@ -57,8 +57,8 @@ abbrev pub LoadBounded : Load → Type 0
 LoadBounded k = unsigned_abs k.obligation ≤ 200000
 
 abbrev pub TradeBounded : Trade → Type 0
-TradeBounded (Bilateral a b f l q p) = (q ≤ 200000) × (p ≤ 20000)
-TradeBounded (Auction r f l q p) = (unsigned_abs q ≤ 200000) × (p ≤ 20000)
+TradeBounded (trade.Bilateral b) = (b.quantity ≤ 200000) × (b.price ≤ 20000)
+TradeBounded (trade.Auction a) = (unsigned_abs a.quantity ≤ 200000) × (a.price ≤ 20000)
 
 pub record Bounded (s : Standing) (rents : List Rent) : Type 0 where
   pub zones : AllByRecursion ZoneBounded s.zones

@@ -1,6 +1,8 @@
 -- A refused call leaves the ledger as it was. Assumes nothing.
 use Rattle.std.specs.Prelude.{◌≡◌, ℕ, List, ℤ, OnErr}
 use Rattle.readings.specs.Table.{Table}
+use Rattle.rules.specs.declared.rows.Auction.{Auction}
+use Rattle.rules.specs.declared.rows.Bilateral.{Bilateral}
 use Rattle.rules.specs.Calls.{Answered, open_call, zone_call, resource_call, load_call, bilateral_call, auction_call, begin_call, event_call, rent_call, close_call, next_call}
 use Rattle.rules.specs.Ledger.{Ledger}
 
@@ -12,8 +14,8 @@ pub record RefusedChangesNothing (l : Ledger) : Type 0 where
   pub zone : (ticket price : ℕ) (rents : List ℕ) → Stays l (zone_call l ticket price rents)
   pub resource : (ticket z letter cleared supplied : ℕ) → Stays l (resource_call l ticket z letter cleared supplied)
   pub load : (ticket z : ℕ) (obligation : ℤ) → Stays l (load_call l ticket z obligation)
-  pub bilateral : (shedder acquirer first last quantity price : ℕ) → Stays l (bilateral_call l shedder acquirer first last quantity price)
-  pub auction : (r first last : ℕ) (quantity : ℤ) (price : ℕ) → Stays l (auction_call l r first last quantity price)
+  pub bilateral : (b : Bilateral) → Stays l (bilateral_call l b)
+  pub auction : (a : Auction) → Stays l (auction_call l a)
   pub begin : (ticket : ℕ) → Stays l (begin_call l ticket)
   pub event : (ticket z day hour hours : ℕ) (t : Table) → Stays l (event_call l ticket z day hour hours t)
   pub rent : (ticket z amount : ℕ) → Stays l (rent_call l ticket z amount)

@@ -8,7 +8,7 @@ use Rattle.rules.specs.declared.rows.Zone.{Zone}
 use Rattle.rules.specs.declared.rows.Resource.{Resource}
 use Rattle.rules.specs.declared.rows.Load.{Load}
 use Rattle.rules.specs.declared.rows.Trade.{Trade}
-use Rattle.rules.specs.declared.rows.Trade.TheVariants.{Bilateral, Auction}
+use Rattle.rules.specs.declared.rows.Trade.TheVariants as trade
 use Rattle.rules.specs.Calls.{Answered, open_call, zone_call, resource_call, load_call, bilateral_call, auction_call}
 use Rattle.rules.specs.Chains.{then}
 use Rattle.rules.specs.Classes.{letter_of}
@@ -19,17 +19,16 @@ use Rattle.rules.specs.Tests.{year_test, peak_test}
 
 -- ---- what stands, as it was entered
 abbrev pub zone_entry : Zone → Entry
-zone_entry z = entry.Zone z.price z.rents
+zone_entry z = entry.Zone z
 
 abbrev pub resource_entry : Resource → Entry
-resource_entry r = entry.Resource r.zone (letter_of r.class) r.cleared r.supplied
+resource_entry r = entry.Resource (record { zone = r.zone; letter = letter_of r.class; cleared = r.cleared; supplied = r.supplied })
 
 abbrev pub load_entry : Load → Entry
-load_entry k = entry.Load k.zone k.obligation
+load_entry k = entry.Load k
 
 abbrev pub trade_entry : Trade → Entry
-trade_entry (Bilateral shedder acquirer first last quantity price) = entry.Bilateral shedder acquirer first last quantity price
-trade_entry (Auction resource first last quantity price) = entry.Auction resource first last quantity price
+trade_entry t = entry.Trade t
 
 -- ---- what a book makes of entries
 -- the ledger that a call leaves, or its refusal
@@ -39,11 +38,11 @@ taken (Err refusal, l) = Err refusal
 
 -- the call of an entry, with a set-up ticket of that month
 unfoldable pub enter : ℕ → Entry → Ledger → Result Ledger Refusal
-enter ticket (entry.Zone price rents) l = taken (zone_call l ticket price rents)
-enter ticket (entry.Resource zone letter cleared supplied) l = taken (resource_call l ticket zone letter cleared supplied)
-enter ticket (entry.Load zone obligation) l = taken (load_call l ticket zone obligation)
-enter ticket (entry.Bilateral shedder acquirer first last quantity price) l = taken (bilateral_call l shedder acquirer first last quantity price)
-enter ticket (entry.Auction resource first last quantity price) l = taken (auction_call l resource first last quantity price)
+enter ticket (entry.Zone z) l = taken (zone_call l ticket z.price z.rents)
+enter ticket (entry.Resource r) l = taken (resource_call l ticket r.zone r.letter r.cleared r.supplied)
+enter ticket (entry.Load k) l = taken (load_call l ticket k.zone k.obligation)
+enter ticket (entry.Trade (trade.Bilateral b)) l = taken (bilateral_call l b)
+enter ticket (entry.Trade (trade.Auction a)) l = taken (auction_call l a)
 
 unfoldable pub enter_all : ℕ → List Entry → Ledger → Result Ledger Refusal
 enter_all ticket [] l = Ok l
@@ -75,11 +74,11 @@ fresh l = set_up l.year l.peak l.standing
 
 -- ---- the same as a list of calls on the opened book
 abbrev pub call_of : Entry → Call
-call_of (entry.Zone price rents) = call.zone 0 price rents
-call_of (entry.Resource zone letter cleared supplied) = call.resource 0 zone letter cleared supplied
-call_of (entry.Load zone obligation) = call.load 0 zone obligation
-call_of (entry.Bilateral shedder acquirer first last quantity price) = call.bilateral shedder acquirer first last quantity price
-call_of (entry.Auction resource first last quantity price) = call.auction resource first last quantity price
+call_of (entry.Zone z) = call.zone 0 z.price z.rents
+call_of (entry.Resource r) = call.resource 0 r.zone r.letter r.cleared r.supplied
+call_of (entry.Load k) = call.load 0 k.zone k.obligation
+call_of (entry.Trade (trade.Bilateral b)) = call.bilateral b
+call_of (entry.Trade (trade.Auction a)) = call.auction a
 
 abbrev pub calls_of : Standing → List Call
 calls_of s = map call_of (map zone_entry s.zones) ++ (map call_of (map resource_entry s.resources) ++ (map call_of (map load_entry s.loads) ++ map call_of (map trade_entry s.trades)))

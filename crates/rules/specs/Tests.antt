@@ -1,5 +1,6 @@
 -- The tests that refuse, each with its refusal. A test takes the parts of the ledger that it reads. Assumes nothing.
 use Rattle.std.specs.Prelude.{ℕ, zero, suc, ◌+◌, ◌*◌, min, max, Bool, true, false, cond, not, ◌&&◌, ◌||◌, List, [], ◌∷◌, length, ℤ, pos, negsuc, Ok, Err, Result, ◌==◌, int_lt, nat_le, nat_lt}
+use Rattle.std.specs.List.{list_any}
 use Rattle.std.specs.Option.{ok_or}
 use Rattle.readings.specs.Table.{Table}
 use Rattle.rules.specs.declared.class.Class.{Class}
@@ -29,9 +30,9 @@ abbrev pub some : {A : Type 0} → (A → Bool) → List A → Bool
 some p [] = false
 some p (x ∷ xs) = p x || some p xs
 
+-- one of the values is above the limit
 abbrev pub any_above : ℕ → List ℕ → Bool
-any_above limit [] = false
-any_above limit (x ∷ xs) = nat_lt limit x || any_above limit xs
+any_above limit xs = list_any (nat_lt limit) xs
 
 -- ---- opening and tickets
 abbrev pub year_test : ℕ → Test

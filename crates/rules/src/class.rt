@@ -1,14 +1,17 @@
 // The class of a resource is one letter.
 ghost use Rattle.std.specs.Prelude.{◌≡◌};
-ghost use Rattle.rules.specs.Classes.{class_of, letter_of, treatment};
+ghost use Rattle.rules.specs.Classes.{letter_of, treatment};
+ghost use Rattle.rules.specs.Tests.{class_test};
+
+use crate::refusal::Refusal;
 
 #[derive(Clone, Copy, PartialEq, Eq, Debug)]
 pub enum Class {
-    Generating,
-    Import,
-    NonIntermittentSettlementOnly,
-    IntermittentPower,
-    IntermittentSettlementOnly,
+    Generating = b'G' as isize,
+    Import = b'I' as isize,
+    NonIntermittentSettlementOnly = b'N' as isize,
+    IntermittentPower = b'P' as isize,
+    IntermittentSettlementOnly = b'S' as isize,
 }
 
 // What a class decides for its resources.
@@ -32,42 +35,44 @@ fn treated(deducted: bool, penalized: bool, credited: bool) -> Treatment
     }
 }
 
+// The class that a letter names, if it names one.
+impl TryFrom<u8> for Class {
+    type Error = Refusal;
+
+    ghost try_from_gives = { λ letter answer. answer ≡ class_test letter };
+
+    fn try_from(letter: u8) -> Result<Class, Refusal> {
+        match letter {
+            b'G' => Ok(Class::Generating),
+            b'I' => Ok(Class::Import),
+            b'N' => Ok(Class::NonIntermittentSettlementOnly),
+            b'P' => Ok(Class::IntermittentPower),
+            b'S' => Ok(Class::IntermittentSettlementOnly),
+            _ => Err(Refusal::ClassUnknown),
+        }
+    }
+}
+
+// The letter of a class.
+impl From<Class> for u8 {
+    ghost from_gives = { λ class letter. letter ≡ letter_of class };
+
+    fn from(class: Class) -> u8 {
+        class as u8
+    }
+}
+
 impl Class {
-    // The class that the letter names, if it names one.
-    pub fn read(letter: u8) -> Option<Class>
-        ensures { result ≡ class_of letter }
-    {
-        match char::from(letter) {
-            'G' => Some(Class::Generating),
-            'I' => Some(Class::Import),
-            'N' => Some(Class::NonIntermittentSettlementOnly),
-            'P' => Some(Class::IntermittentPower),
-            'S' => Some(Class::IntermittentSettlementOnly),
-            _ => None,
-        }
-    }
-
-    pub fn letter(self) -> u8
-        ensures { result ≡ letter_of self }
-    {
-        match self {
-            Class::Generating => b'G',
-            Class::Import => b'I',
-            Class::NonIntermittentSettlementOnly => b'N',
-            Class::IntermittentPower => b'P',
-            Class::IntermittentSettlementOnly => b'S',
-        }
-    }
-
+    // The table of classes.
     pub fn treatment(self) -> Treatment
         ensures { result ≡ treatment self }
     {
         match self {
-            Class::Generating => treated(true, true, true),
-            Class::Import => treated(true, true, true),
+            Class::Generating | Class::Import => treated(true, true, true),
             Class::NonIntermittentSettlementOnly => treated(true, true, false),
-            Class::IntermittentPower => treated(true, false, false),
-            Class::IntermittentSettlementOnly => treated(true, false, false),
+            Class::IntermittentPower | Class::IntermittentSettlementOnly => {
+                treated(true, false, false)
+            }
         }
     }
 }

@@ -1,34 +1,19 @@
 // What is entered into a book in set-up, and the trades that are booked there: an entry for each line of a standing sheet.
+use crate::rows::{Load, Trade, Zone};
+
+// A resource as it is entered, by the letter of its class: what its offer cleared, and the self-supplied part.
+#[derive(Clone, Copy)]
+pub struct Offer {
+    pub zone: u64,
+    pub letter: u8,
+    pub cleared: u64,
+    pub supplied: u64,
+}
+
 #[derive(Clone, Copy)]
 pub enum Entry {
-    Zone {
-        price: u64,
-        rents: [u64; 12],
-    },
-    // by the letter of its class
-    Resource {
-        zone: u64,
-        letter: u8,
-        cleared: u64,
-        supplied: u64,
-    },
-    Load {
-        zone: u64,
-        obligation: i64,
-    },
-    Bilateral {
-        shedder: u64,
-        acquirer: u64,
-        first: u64,
-        last: u64,
-        quantity: u64,
-        price: u64,
-    },
-    Auction {
-        resource: u64,
-        first: u64,
-        last: u64,
-        quantity: i64,
-        price: u64,
-    },
+    Zone(Zone),
+    Resource(Offer),
+    Load(Load),
+    Trade(Trade),
 }

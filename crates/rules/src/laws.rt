@@ -9,6 +9,7 @@ ghost use Rattle.rules.specs.Replays.{EntriesReplay};
 ghost use Rattle.rules.specs.Sums.{ThreeSums};
 
 // What holds after every list of calls.
+#[tactic(auto, using(crate::proofs::Main::three_sums))]
 pub fn three_sums_stand() -> bool
     ensures { ThreeSums }
 {
@@ -16,6 +17,7 @@ pub fn three_sums_stand() -> bool
 }
 
 // The worked figures.
+#[tactic(auto, using(crate::proofs::Computes::figures_agree_lem))]
 pub fn figures_agree() -> bool
     ensures { FiguresAgree }
 {
@@ -37,6 +39,7 @@ pub fn closed_months_stay() -> bool
 }
 
 // A refused call leaves the ledger as it was.
+#[tactic(auto, using(crate::proofs::Refused::changes_nothing))]
 pub fn refused_changes_nothing() -> bool
     ensures { (l : Ledger) → RefusedChangesNothing l }
 {
@@ -44,6 +47,7 @@ pub fn refused_changes_nothing() -> bool
 }
 
 // The standing entries of every book, entered again in set-up, are accepted and make the same entries.
+#[tactic(auto, using(crate::proofs::Entered::entries_replay_lem))]
 pub fn entries_replay() -> bool
     ensures { EntriesReplay }
 {
@@ -51,6 +55,7 @@ pub fn entries_replay() -> bool
 }
 
 // What the table of classes comes to.
+#[tactic(auto, using(crate::proofs::Classes::class_laws))]
 pub fn class_table_stands() -> bool
     ensures { ClassLaws }
 {

@@ -14,7 +14,8 @@ pub struct Position {
 }
 
 impl Position {
-    // The position of a plain row, if each month is within the limits.
+    // The position of a plain row, if each month is within the limits. An Option and no `TryFrom`: what is refused is told by
+    // the call that makes the change.
     pub fn of_row(row: [u64; 12]) -> Option<Position>
         ensures { MatchOption result (within row ≡ false) (λ p. p.months ≡ row) }
     {
@@ -33,15 +34,12 @@ impl Position {
 
     // The position after the change, if every month stays within the limits.
     pub fn changed(self, change: Change) -> Option<Position>
-        requires { change.acquired ≤ 200000 }
         ensures { option_map (λ p. p.months) result ≡ changed_row change self.months }
     {
+        // by place: of what an adapter of `iter_mut` wrote nothing is known afterwards
         let mut months = self.months;
-        for k in 0..12 {
-            let Some(held) = month_changed(change, k, months[k]) else {
-                return None;
-            };
-            months[k] = held;
+        for (k, held) in self.months.iter().enumerate() {
+            months[k] = month_changed(change, k, *held)?;
         }
         Some(Position { months })
     }
@@ -49,27 +47,27 @@ impl Position {
 
 // What the change makes of the position in the k-th month, counted from 0, if that stays within the limits.
 fn month_changed(change: Change, k: usize, held: u64) -> Option<u64>
-    requires { (change.acquired ≤ 200000) × ((held ≤ 200000) × (k < 12)) }
+    requires { k < 12 }
     ensures { result ≡ changed_month change k held }
 {
     let month = k as u64 + 1;
-    if month < change.first || month > change.last {
+    if !(change.first..=change.last).contains(&month) {
         return Some(held);
     }
-    let raised = held + change.acquired;
-    if raised < change.shed || raised - change.shed > 200000 {
-        return None;
-    }
-    Some(raised - change.shed)
+    // wide enough for a change of any size
+    (u128::from(held) + u128::from(change.acquired))
+        .checked_sub(u128::from(change.shed))
+        .filter(|after| *after <= 200000)
+        .map(|after| after as u64)
 }
 
-// What the change makes of a plain row, if every month stays within the limits.
+// What the change makes of a plain row, if every month stays within the limits. A row comes in and goes out plain, with its
+// limits as a fact beside it: the definitions make rows too, and would have to carry proofs if the type of a row held it.
 pub fn row_changed(row: [u64; 12], change: Change) -> Option<[u64; 12]>
-    requires { (within row ≡ true) × (change.acquired ≤ 200000) }
+    requires { within row ≡ true }
     ensures same { result ≡ changed_row change row }
     ensures limits { IfSome result (λ x. within x ≡ true) }
 {
     let position = Position::of_row(row)?;
-    let changed = position.changed(change)?;
-    Some(changed.row())
+    position.changed(change).map(Position::row)
 }

@@ -5,10 +5,5 @@ ghost use Rattle.rules.specs.Tests.{any_above};
 pub fn some_above(limit: u64, values: &[u64]) -> bool
     ensures { result ≡ any_above limit values.now }
 {
-    for value in values {
-        if *value > limit {
-            return true;
-        }
-    }
-    false
+    values.iter().any(|value| *value > limit)
 }

@@ -1,7 +1,8 @@
 ghost use Rattle.std.specs.Prelude.{◌≡◌, pos, ◌<ℤ◌};
 ghost use Rattle.sharing.specs.Floor.{floor_div, Floored};
 
-// Over a divisor above nil, Euclid's quotient is the one rounded down.
+// Over a divisor above nil, Euclid's quotient is the one rounded down. A function of its own: a
+// division that rounds otherwise is refused right at this contract.
 fn quotient(a: i128, b: i128) -> i128
     requires { pos 0 <ℤ b }
     ensures { result ≡ floor_div a b }

@@ -36,11 +36,7 @@ fn total_weight<P: Party>(parties: &[P]) -> i64
     ensures low { neg_ℤ (pos (2 ^ 40)) ≤ℤ result }
     ensures high { result ≤ℤ pos (2 ^ 40) }
 {
-    let mut total: i64 = 0;
-    for p in parties {
-        total += p.weight() as i64;
-    }
-    total
+    parties.iter().map(|p| i64::from(p.weight())).sum()
 }
 
 fn portion_of(amount: i64, total: i64, weight: i32) -> i128
@@ -48,7 +44,8 @@ fn portion_of(amount: i64, total: i64, weight: i32) -> i128
     ensures low { neg_ℤ (pos (2 ^ 94)) ≤ℤ result }
     ensures high { result ≤ℤ pos (2 ^ 94) }
 {
-    floor_div(amount as i128 * weight as i128, total as i128)
+    let product = i128::from(amount) * i128::from(weight);
+    floor_div(product, i128::from(total))
 }
 
 // A party takes its portion of the amount, which is the answer.
@@ -69,7 +66,8 @@ fn share_among<P: Party>(amount: i64, parties: &mut [P]) -> i64
     ensures { Shared P.weighs P.took P.given amount parties.old parties.new result }
 {
     let total = total_weight(parties);
-    let mut left = amount as i128;
+    // each party is written as its share is taken off
+    let mut left = i128::from(amount);
     for p in parties.iter_mut() {
         left -= hand_out(p, amount, total);
     }

@@ -1,6 +1,6 @@
 ghost use Rattle.std.specs.Prelude.{pos};
 ghost use Rattle.sharing_tests.specs.Kinds.{charged, credited};
-ghost use Rattle.std.proofs.Common.{rules, arith};
+ghost use Rattle.std.proofs.Common.{rules};
 
 use crate::kinds::{Load, Recipient};
 use sharing::Party;
@@ -32,9 +32,9 @@ impl Party for Recipient {
 
     ghost given = { credited };
 
-    ghost takes = { first_of (Prim.search rules, Prim.grind (arith, Self.row.coded.inj)) };
+    ghost takes = { Prim.search rules };
 
-    ghost keeps = { first_of (Prim.search rules, Prim.grind (arith, Self.row.coded.inj)) };
+    ghost keeps = { Prim.search rules };
 
     fn weight(&self) -> i32 {
         self.weight as i32

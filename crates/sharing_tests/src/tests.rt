@@ -32,13 +32,9 @@ fn divisions_round_down(rt: HostRuntime) {
 
 // An amount over three loads: their charges, and what is left.
 fn shares(rt: &impl Abort, amount: i64, obligations: [i32; 3], charges: [i128; 3], left: i64) {
-    let [a, b, c] = obligations;
-    let mut loads = [load(a), load(b), load(c)];
+    let mut loads = obligations.map(load);
     assert_eq!(rt; share(amount, &mut loads), Some(left));
-    assert_eq!(rt;
-        [loads[0].charge, loads[1].charge, loads[2].charge],
-        charges
-    );
+    assert_eq!(rt; loads.map(|load| load.charge), charges);
 }
 
 #[test]
@@ -50,12 +46,12 @@ fn three_loads(rt: HostRuntime) {
     shares(&rt, 101, [2, -2, 0], [0, 0, 0], 101);
     shares(&rt, -101, [2, -3, 0], [0, 0, 0], -101);
     // the widest figures
-    let wide = i64::MIN as i128 * i32::MAX as i128;
+    let wide = i128::from(i64::MIN) * i128::from(i32::MAX);
     shares(
         &rt,
         i64::MIN,
         [i32::MAX, -i32::MAX, 1],
-        [wide, -wide, i64::MIN as i128],
+        [wide, -wide, i128::from(i64::MIN)],
         0,
     );
 }
@@ -83,9 +79,8 @@ fn recipient(weight: u16) -> Recipient {
 fn recipients_by_weight(rt: HostRuntime) {
     let mut recipients = [recipient(60000), recipient(0), recipient(20000)];
     assert_eq!(rt; share(27000001, &mut recipients), Some(1));
-    let [first, second, third] = recipients;
     assert_eq!(rt;
-        [first.credit, second.credit, third.credit],
+        recipients.map(|recipient| recipient.credit),
         [20250000, 0, 6750000]
     );
 }

@@ -4,10 +4,6 @@ use lib.ListN.{length-map}
 use Rattle.std.specs.List.{AllByRecursion}
 use Rattle.rules.specs.declared.entry.Entry.{Entry}
 use Rattle.rules.specs.declared.rows.Zone.{Zone}
-use Rattle.rules.specs.declared.rows.Resource.{Resource}
-use Rattle.rules.specs.declared.rows.Load.{Load}
-use Rattle.rules.specs.declared.rows.Trade.{Trade}
-use Rattle.rules.specs.declared.rows.Trade.TheVariants as trade
 use Rattle.rules.specs.Calls.{open_call}
 use Rattle.rules.specs.Chains.{then as entered}
 use Rattle.rules.specs.Ledger.{Ledger, opened}
@@ -31,29 +27,20 @@ use Rattle.sheet.specs.Reading.{Progress, answered, of_line, opens, read_open, r
 use Rattle.sheet.specs.Laws.{SheetsStand}
 use Rattle.sheet.specs.Sheets.{entries, section_text, text_of, sheet_text, TwelveRents, Deposit, SheetOf}
 use Rattle.sheet.proofs.Ends.{open_line, opens_is}
-use Rattle.sheet.proofs.Grows.{Twelve, all_taken}
+use Rattle.sheet.proofs.Grows.{Twelve, AllTaken, all_taken}
 use Rattle.sheet.proofs.Sections.{at, of_book_ok, section_forth, section_back}
 
--- the entries of a section are that section's, and have their text
-zones_in : (zs : List Zone) → AllByRecursion (λ e. section_of e ≡ Z) (map zone_entry zs)
-zones_in [] = tt
-zones_in (z ∷ zs) = (refl, zones_in zs)
+-- the entries of a section are that section's, and a zone has its twelve rents
+each : {A : Type 0} (f : A → Entry) (P : Entry → Type 0) → ((x : A) → P (f x)) → (xs : List A) → AllByRecursion P (map f xs)
+each f P h [] = tt
+each f P h (x ∷ xs) = (h x, each f P h xs)
 
-resources_in : (rs : List Resource) → AllByRecursion (λ e. section_of e ≡ R) (map resource_entry rs)
-resources_in [] = tt
-resources_in (r ∷ rs) = (refl, resources_in rs)
-
-loads_in : (ks : List Load) → AllByRecursion (λ e. section_of e ≡ L) (map load_entry ks)
-loads_in [] = tt
-loads_in (k ∷ ks) = (refl, loads_in ks)
-
-trade_in : (x : Trade) → section_of (trade_entry x) ≡ T
-trade_in (trade.Bilateral s b f e q p) = refl
-trade_in (trade.Auction r f e q p) = refl
-
-trades_in : (ts : List Trade) → AllByRecursion (λ e. section_of e ≡ T) (map trade_entry ts)
-trades_in [] = tt
-trades_in (x ∷ ts) = (trade_in x, trades_in ts)
+entries_in : (section : Section) (l : Ledger) → AllByRecursion (λ e. section_of e ≡ section) (entries section l)
+entries_in Y l = tt
+entries_in Z l = each zone_entry _ (λ _. refl) l.standing.zones
+entries_in R l = each resource_entry _ (λ _. refl) l.standing.resources
+entries_in L l = each load_entry _ (λ _. refl) l.standing.loads
+entries_in T l = each trade_entry _ (λ _. refl) l.standing.trades
 
 zones_twelve : (zs : List Zone) → AllByRecursion (λ z. length z.rents ≡ 12) zs → AllByRecursion Twelve (map zone_entry zs)
 zones_twelve [] h = tt
@@ -63,21 +50,12 @@ twelve_zones : (zs : List Zone) → AllByRecursion (Fits Z) (map zone_entry zs) 
 twelve_zones [] h = tt
 twelve_zones (z ∷ zs) h = (h.0.0.1.0, twelve_zones zs h.1)
 
-resources_twelve : (rs : List Resource) → AllByRecursion Twelve (map resource_entry rs)
-resources_twelve [] = tt
-resources_twelve (r ∷ rs) = (tt, resources_twelve rs)
-
-loads_twelve : (ks : List Load) → AllByRecursion Twelve (map load_entry ks)
-loads_twelve [] = tt
-loads_twelve (k ∷ ks) = (tt, loads_twelve ks)
-
-trade_twelve : (x : Trade) → Twelve (trade_entry x)
-trade_twelve (trade.Bilateral s b f e q p) = tt
-trade_twelve (trade.Auction r f e q p) = tt
-
-trades_twelve : (ts : List Trade) → AllByRecursion Twelve (map trade_entry ts)
-trades_twelve [] = tt
-trades_twelve (x ∷ ts) = (trade_twelve x, trades_twelve ts)
+entries_twelve : (section : Section) (l : Ledger) → TwelveRents l → AllByRecursion Twelve (entries section l)
+entries_twelve Y l h = tt
+entries_twelve Z l h = zones_twelve l.standing.zones h
+entries_twelve R l h = each resource_entry Twelve (λ _. tt) l.standing.resources
+entries_twelve L l h = each load_entry Twelve (λ _. tt) l.standing.loads
+entries_twelve T l h = each trade_entry Twelve (λ _. tt) l.standing.trades
 
 fit_all : (section : Section) (es : List Entry) → AllByRecursion good es → AllByRecursion (λ e. section_of e ≡ section) es → AllByRecursion (Fits section) es
 fit_all section [] g s = tt
@@ -86,6 +64,15 @@ fit_all section (e ∷ es) g s = ((g.0, s.0), fit_all section es g.1 s.1)
 in_all : (section : Section) (es : List Entry) → AllByRecursion (Fits section) es → AllByRecursion (λ e. section_of e ≡ section) es
 in_all section [] g = tt
 in_all section (e ∷ es) g = (g.0.1, in_all section es g.1)
+
+-- the book takes the entries of a section of a ledger: it holds few again, and the section is read
+section_taken : (section : Section) (d l m : Ledger) → enter_all 0 (entries section d) l ≡ Ok m → AllTaken section (entries section d) l m
+section_taken section d l m h = all_taken 0 section (entries section d) l m (entries_in section d) h
+
+entries_forth : (section : Section) (d : Ledger) (n : ℕ) (l m : Ledger) (r : List ℕ) → TwelveRents d → Few l → length (entries section d) < 10 ^ 11 → enter_all 0 (entries section d) l ≡ Ok m → (k : ℕ) × (read_section (setup_ticket 0) section (at n (section_text section (entries section d) ++ r), l) ≡ Ok (at k r, m))
+entries_forth section d n l m r twelve few size h =
+    let es = entries section d in
+    section_forth (setup_ticket 0) section n l m es r (fit_all section es ((section_taken section d l m h).fits few (entries_twelve section d twelve)) (entries_in section d)) size h
 
 -- ---- one reading, or one entering, after another
 then_go : {A B F : Type 0} (v : Result A F) (rest : A → Result B F) (x : A) → v ≡ Ok x → then v rest ≡ rest x
@@ -107,43 +94,32 @@ at_zero e es l m h = ap (λ k. enter_all k es l) (sym e) ∙ h
 pub sheet_forth : (d : Ledger) (text : List ℕ) → SheetOf d text → read_all (at 0 text, empty) ≡ Ok (setup_ticket 0, d)
 unfolding made_of text_of
 sheet_forth d text s =
-    let zs = entries Z d in
-    let rs = entries R d in
-    let ks = entries L d in
-    let ts = entries T d in
     let t : SetupTicket = setup_ticket 0 in
+    let twelve = s.stands.twelve in
     let o = entered-ok (taken (open_call empty d.year d.peak)) _ d s.stands.made in
-    let z = entered-ok (enter_all 0 zs o.0) _ d o.2 in
-    let r = entered-ok (enter_all 0 rs z.0) _ d z.2 in
-    let k = entered-ok (enter_all 0 ks r.0) _ d r.2 in
+    let z = entered-ok (enter_all 0 (entries Z d) o.0) _ d o.2 in
+    let r = entered-ok (enter_all 0 (entries R d) z.0) _ d z.2 in
+    let k = entered-ok (enter_all 0 (entries L d) r.0) _ d r.2 in
     let is = opening_taken empty d.year d.peak o.0 o.1 in
-    let az = all_taken 0 Z zs o.0 z.0 (zones_in d.standing.zones) z.1 in
-    let ar = all_taken 0 R rs z.0 r.0 (resources_in d.standing.resources) r.1 in
-    let ak = all_taken 0 L ks r.0 k.0 (loads_in d.standing.loads) k.1 in
-    let ax = all_taken 0 T ts k.0 d (trades_in d.standing.trades) k.2 in
-    let f₀ : Few o.0 = subst Few (sym is.new) (few_opened d.year d.peak) in
-    let f₁ = az.few f₀ in
-    let f₂ = ar.few f₁ in
-    let f₃ = ak.few f₂ in
-    let f₄ = ax.few f₃ in
-    let r₄ : List ℕ = section_text T ts in
-    let r₃ : List ℕ = section_text L ks ++ r₄ in
-    let r₂ : List ℕ = section_text R rs ++ r₃ in
-    let r₁ : List ℕ = section_text Z zs ++ r₂ in
+    let r₄ : List ℕ = section_text T (entries T d) in
+    let r₃ : List ℕ = section_text L (entries L d) ++ r₄ in
+    let r₂ : List ℕ = section_text R (entries R d) ++ r₃ in
+    let r₁ : List ℕ = section_text Z (entries Z d) ++ r₂ in
     let first = opening.text (tt, (d.year, d.peak)) in
     let whole : text ≡ first ++ 10 ∷ r₁ = s.same ∙ append_assoc first (10 ∷ []) r₁ in
     let line₁ = line_forth Y read_opening (λ x. opening.text (tt, x)) (λ x. opening.good (tt, x)) opening_reads 0 (d.year, d.peak) r₁ (tt, (is.year_low, is.peak_low)) in
     let start : Place = at 0 (first ++ 10 ∷ r₁) in
     let opens₁ : opens d.year d.peak empty ≡ Ok (t, o.0) = opens_is d.year d.peak empty ∙ ap (λ v. then v (λ m. Ok (t, m))) o.1 in
     let open₁ : read_open (start, empty) ≡ Ok (t, (at 1 r₁, o.0)) = open_line start (at 1 r₁) empty d.year d.peak line₁ ∙ ap (λ v. then (of_book (spot_at Y start) v) (λ y. Ok (y.0, (at 1 r₁, y.1)))) opens₁ in
-    let nz : length zs < 10 ^ 11 = omega (arith, length-map d.standing.zones zone_entry, f₄.zones) in
-    let nr : length rs < 10 ^ 11 = omega (arith, length-map d.standing.resources resource_entry, f₄.resources) in
-    let nk : length ks < 10 ^ 11 = omega (arith, length-map d.standing.loads load_entry, f₄.loads) in
-    let nt : length ts < 10 ^ 11 = omega (arith, length-map d.standing.trades trade_entry, f₄.trades) in
-    let sz = section_forth t Z 1 o.0 z.0 zs r₂ (fit_all Z zs (az.fits f₀ (zones_twelve d.standing.zones s.stands.twelve)) (zones_in d.standing.zones)) nz z.1 in
-    let sr = section_forth t R sz.0 z.0 r.0 rs r₃ (fit_all R rs (ar.fits f₁ (resources_twelve d.standing.resources)) (resources_in d.standing.resources)) nr r.1 in
-    let sk = section_forth t L sr.0 r.0 k.0 ks r₄ (fit_all L ks (ak.fits f₂ (loads_twelve d.standing.loads)) (loads_in d.standing.loads)) nk k.1 in
-    let st = section_forth t T sk.0 k.0 d ts [] (fit_all T ts (ax.fits f₃ (trades_twelve d.standing.trades)) (trades_in d.standing.trades)) nt k.2 in
+    let f₀ : Few o.0 = subst Few (sym is.new) (few_opened d.year d.peak) in
+    let f₁ = (section_taken Z d o.0 z.0 z.1).few f₀ in
+    let f₂ = (section_taken R d z.0 r.0 r.1).few f₁ in
+    let f₃ = (section_taken L d r.0 k.0 k.1).few f₂ in
+    let f₄ = (section_taken T d k.0 d k.2).few f₃ in
+    let sz = entries_forth Z d 1 o.0 z.0 r₂ twelve f₀ (omega (arith, length-map d.standing.zones zone_entry, f₄.zones)) z.1 in
+    let sr = entries_forth R d sz.0 z.0 r.0 r₃ twelve f₁ (omega (arith, length-map d.standing.resources resource_entry, f₄.resources)) r.1 in
+    let sk = entries_forth L d sr.0 r.0 k.0 r₄ twelve f₂ (omega (arith, length-map d.standing.loads load_entry, f₄.loads)) k.1 in
+    let st = entries_forth T d sk.0 k.0 d [] twelve f₃ (omega (arith, length-map d.standing.trades trade_entry, f₄.trades)) k.2 in
     let last : read_section t T (at sk.0 r₄, k.0) ≡ Ok (at st.0 [], d) = ap (λ x. read_section t T (at sk.0 x, k.0)) (sym (append-nil r₄)) ∙ st.1 in
     let all = all_sections t (at 1 r₁, o.0) (at sz.0 r₂, z.0) (at sr.0 r₃, r.0) (at sk.0 r₄, k.0) (at st.0 [], d) sz.1 sr.1 sk.1 last in
     ap (λ x. read_all (at 0 x, empty)) whole ∙ all_read (start, empty) (at 1 r₁, o.0) t d open₁ all

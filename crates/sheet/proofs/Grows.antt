@@ -2,7 +2,8 @@
 use Rattle.std.proofs.Common.{◌≡◌, ℕ, List, [], ◌∷◌, ◌++◌, length, Ok, subst}
 use Rattle.std.specs.List.{AllByRecursion}
 use Rattle.rules.specs.declared.entry.Entry.{Entry}
-use Rattle.rules.specs.declared.entry.Entry.TheVariants.{Zone, Resource, Load, Bilateral, Auction}
+use Rattle.rules.specs.declared.entry.Entry.TheVariants.{Zone, Resource, Load, Trade}
+use Rattle.rules.specs.declared.rows.Trade.TheVariants as trade
 use Rattle.rules.specs.Ledger.{Ledger}
 use Rattle.rules.specs.Replays.{enter, enter_all}
 use Rattle.rules.proofs.Growing.{Grown, Added, Few, Low, then_ok, same_ok, entry_taken, grown_none, grown_then}
@@ -19,25 +20,23 @@ Grow T es l m = Grown [] [] [] es l m
 
 -- a zone has twelve rents
 abbrev pub Twelve : Entry → Type 0
-Twelve (Zone price rents) = length rents ≡ 12
-Twelve (Resource z b q s) = Unit {0}
-Twelve (Load z o) = Unit {0}
-Twelve (Bilateral s a f e q p) = Unit {0}
-Twelve (Auction r f e q p) = Unit {0}
+Twelve (Zone z) = length z.rents ≡ 12
+Twelve (Resource r) = Unit {0}
+Twelve (Load k) = Unit {0}
+Twelve (Trade t) = Unit {0}
 
 grow_one : (x : Entry) (l m : Ledger) → Added x l m → Grow (section_of x) (x ∷ []) l m
-grow_one (Zone price rents) l m g = g
-grow_one (Resource z b q s) l m g = g
-grow_one (Load z o) l m g = g
-grow_one (Bilateral s a f e q p) l m g = g
-grow_one (Auction r f e q p) l m g = g
+grow_one (Zone z) l m g = g
+grow_one (Resource r) l m g = g
+grow_one (Load k) l m g = g
+grow_one (Trade t) l m g = g
 
 low_good : (x : Entry) → Low x → Twelve x → good x
-low_good (Zone price rents) h w = (h.0, (w, h.1))
-low_good (Resource z b q s) h w = (h.0, (h.1, (h.2, h.3)))
-low_good (Load z o) h w = h
-low_good (Bilateral s a f e q p) h w = (tt, (h.0, (h.1, (h.2, (h.3, (h.4, h.5))))))
-low_good (Auction r f e q p) h w = (tt, (h.0, (h.1, (h.2, (h.3, h.4)))))
+low_good (Zone z) h w = (h.0, (w, h.1))
+low_good (Resource r) h w = (h.0, (h.1, (h.2, h.3)))
+low_good (Load k) h w = h
+low_good (Trade (trade.Bilateral b)) h w = (tt, (h.0, (h.1, (h.2, (h.3, (h.4, h.5))))))
+low_good (Trade (trade.Auction a)) h w = (tt, (h.0, (h.1, (h.2, (h.3, h.4)))))
 
 grow_none : (section : Section) (l : Ledger) → Grow section [] l l
 grow_none Y l = tt

@@ -1,7 +1,8 @@
-// The lists of standing entries. They have their whole memory from the start, so no later call asks for any.
-ghost use Rattle.std.specs.Prelude.{◌≡◌, ◌≤◌, true, vec_len, vec_capacity};
+// The lists of standing entries.
+ghost use Rattle.std.specs.Prelude.{◌≡◌, true};
 ghost use Rattle.rules.specs.Within.{all_within};
 
+use crate::register::Register;
 use rules::rows::{Load, Resource, Trade, Zone};
 
 mod entering;
@@ -9,19 +10,13 @@ mod making;
 mod reading;
 mod trading;
 
+// That each row is within its limits stays a fact here: the definitions make such rows too, and would have to carry proofs if the
+// type of a row held it.
 #[derive(Drop)]
 pub struct Standing {
-    zones: Vec<Zone>,
-    resources: Vec<Resource>,
-    loads: Vec<Load>,
-    trades: Vec<Trade>,
-    ghost few_zones: { vec_len zones ≤ 8 },
-    ghost few_resources: { vec_len resources ≤ 64 },
-    ghost few_loads: { vec_len loads ≤ 32 },
-    ghost few_trades: { vec_len trades ≤ 128 },
-    ghost zone_room: { 8 ≤ vec_capacity zones },
-    ghost resource_room: { 64 ≤ vec_capacity resources },
-    ghost load_room: { 32 ≤ vec_capacity loads },
-    ghost trade_room: { 128 ≤ vec_capacity trades },
-    ghost rows_within: { all_within resources.items ≡ true },
+    zones: Register<Zone, 8>,
+    resources: Register<Resource, 64>,
+    loads: Register<Load, 32>,
+    trades: Register<Trade, 128>,
+    ghost rows_within: { all_within resources ≡ true },
 }

@@ -1,8 +1,8 @@
 pub mod Codecs
-pub mod Lines
 pub mod Numerals
 pub mod Pastes
 pub mod Pieces
 pub mod Repeats
+pub mod Rows
 pub mod Signs
 pub mod Tokens

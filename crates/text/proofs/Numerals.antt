@@ -1,13 +1,9 @@
 -- Number fields and their texts. Assumes nothing.
-use Rattle.std.proofs.Common.{◌≡◌, ℕ, ◌+◌, ◌-◌, ◌*◌, ◌^◌, ◌<◌, ◌≤◌, true, false, cond, not, ◌&&◌, eqb, leb, List, length, get_or, take, Some, None, decimal, sym, refl, ap, ◌∙◌, ⊎_elim, arith}
-use Rattle.std.specs.Str.Parse.{digits_value, AllDigits}
-use Rattle.std.specs.Char.{digit_value}
+use Rattle.std.proofs.Common.{◌≡◌, ℕ, ◌^◌, ◌<◌, ◌≤◌, true, false, cond, not, ◌&&◌, eqb, leb, List, length, get_or, Some, None, decimal, sym, refl, ap, ◌∙◌, ⊎_elim, arith}
+use Rattle.std.specs.Str.Parse.{digits_value}
 use Rattle.std.specs.Str.{all_ascii_digits}
 use Rattle.std.proofs.lemmas.Bool.{cases_Bool, cond-true, cond-false, and_parts, and_from, le-leb, leb-true, or_cases, or_left, or_right, not_from_false, ne_eqb, not-true, eqb-false, cases_eq, cases_lt}
 use Rattle.std.proofs.lemmas.Str.Parse.{IsNumeralModel, numerals_by_value, tells_all_ascii_digits, digits_value_short}
-use Rattle.std.proofs.lemmas.Int.Digits.{digits_value_more, digits_more}
-use Rattle.std.proofs.lemmas.Str.{digit_value_digit}
-use Rattle.std.proofs.lemmas.List.{length-take-le}
 use Rattle.std.proofs.lemmas.Fmt.{decimal-digits_value, digits_value-decimal, digits_decimal, decimal_nonempty, length-decimal-le, first_decimal, decimal_digit}
 use Rattle.text.specs.Numbers.{sized, unpadded, numeral}
 
@@ -21,10 +17,6 @@ numeral_yes s h k = rw (h, k) refl
 pub numeral_no : (s : List ℕ) → sized s ≡ false → numeral s ≡ None
 unfolding numeral
 numeral_no s h = rw h refl
-
-pub numeral_padded : (s : List ℕ) → sized s ≡ true → unpadded s ≡ false → numeral s ≡ None
-unfolding numeral
-numeral_padded s h k = rw (h, k) refl
 
 -- what a number field is, in facts
 pub record Plain (s : List ℕ) : Type 0 where
@@ -91,16 +83,3 @@ decimal_numeral s n e =
     let w : digits_value 10 s < 2 ^ 64 = omega arith in
     let d : decimal (digits_value 10 s) ≡ s = decimal-digits_value own s p.digits p.some p.front w in
     (sym d ∙ ap decimal v, omega arith)
-
--- one digit more of a number that is read from the left
-pub digit_step : (s : List ℕ) (i n d : ℕ) → i < length s → 48 ≤ get_or s i 0 → get_or s i 0 ≤ 57 → d ≡ get_or s i 0 - 48 → (n ≡ digits_value 10 (take i s)) × AllDigits 10 (take i s) → (n * 10 + d ≡ digits_value 10 (take (i + 1) s)) × AllDigits 10 (take (i + 1) s)
-digit_step s i n d lt lo hi e inv =
-    let v : digit_value (get_or s i 0) + 48 ≡ get_or s i 0 = digit_value_digit (get_or s i 0) (lo, hi) in
-    let low : digit_value (get_or s i 0) < 10 = omega (arith, v) in
-    let w : digits_value 10 (take (i + 1) s) ≡ digits_value 10 (take i s) * 10 + digit_value (get_or s i 0) = digits_value_more 10 s i lt in
-    (omega (arith, v, w, inv.0), digits_more 10 s i lt inv.1 low)
-
-pub digit_bound : (s : List ℕ) (i n : ℕ) → i < length s → length s ≤ 11 → (n ≡ digits_value 10 (take i s)) × AllDigits 10 (take i s) → n < 10 ^ 11
-digit_bound s i n lt short inv =
-    let l : length (take i s) ≤ 11 = omega (arith, length-take-le i s (omega arith)) in
-    omega (arith, digits_value_short own (take i s) 11 (own.from _ inv.1) l, inv.0)

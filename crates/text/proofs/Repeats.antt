@@ -1,10 +1,11 @@
 -- The laws of k values of one format. Assumes nothing.
-use Rattle.std.proofs.Common.{◌≡◌, ℕ, zero, suc, ◌+◌, ◌-◌, ◌<◌, ◌≤◌, List, [], ◌∷◌, ◌++◌, length, take, Ok, Err, Result, sym, refl, ap, ◌∙◌, subst, append_assoc, append-nil, arith}
+use Rattle.std.proofs.Common.{◌≡◌, ℕ, zero, suc, ◌+◌, ◌-◌, ◌<◌, List, [], ◌∷◌, ◌++◌, length, Ok, Err, Option, Result, sym, refl, ap, ◌∙◌, subst, append_assoc, append-nil, add-zero, arith}
 use Rattle.text.specs.declared.faults.FieldFault.{FieldFault}
 use Rattle.std.specs.List.{flat_map, AllByRecursion}
 use Rattle.text.specs.declared.faults.Spot.{Spot}
-use Rattle.std.proofs.lemmas.List.{take_all}
-use Rattle.text.specs.Formats.{then, Format, many, many_pieces, many_left, many_values, follows, number, numbers_of, or_fault, nothing}
+use Rattle.text.specs.Cuts.{next, past}
+use Rattle.text.specs.Numbers.{numeral}
+use Rattle.text.specs.Formats.{then, Format, many, many_pieces, many_left, many_values, follows, number, or_fault, nothing}
 use Rattle.text.proofs.Codecs.{Edge, Free, free_append, Laws, then_ok}
 
 module _ {A P : Type 0} (f : Format A P) (l : Laws f) (edge : (x : A) (r : List ℕ) → Edge 32 (f.text x ++ r)) where
@@ -51,55 +52,32 @@ module _ {A P : Type 0} (f : Format A P) (l : Laws f) (edge : (x : A) (r : List 
     flat = λ xs g. many_flat xs g.1;
   }
 
--- what k values more add to the values xs that were read before them, for a loop
-abbrev pub reads_on : {A P : Type 0} → Format A P → ℕ → Spot → ℕ → List ℕ → List A → Result (List A) FieldFault
-reads_on f k at p s xs = then (many_values f at p (many_pieces f k s)) (λ ys. Ok (xs ++ ys))
+-- what k numbers more give, after the numbers xs that were read before them, for a loop
+abbrev pub numbers_on : ℕ → Spot → ℕ → List ℕ → List ℕ → Result (List ℕ) FieldFault
+numbers_on k at p s xs =
+    then (many_values (follows number) at p (many_pieces (follows number) k s))
+    (λ ys. then (or_fault (nothing (many_left (follows number) k s)) at (p + k)) (λ _. Ok (xs ++ ys)))
 
-regroup : {A : Type 0} (v : Result (List A) FieldFault) (x : A) (xs : List A) → then (then v (λ ys. Ok (x ∷ ys))) (λ ys. Ok (xs ++ ys)) ≡ then v (λ ys. Ok ((xs ++ x ∷ []) ++ ys))
-regroup (Ok ys) x xs = ap Ok (sym (append_assoc xs (x ∷ []) ys))
-regroup (Err e) x xs = refl
+regroup : (v : Result (List ℕ) FieldFault) (o : Option (Unit {0})) (at : Spot) (p q : ℕ) (x : ℕ) (xs : List ℕ) → p ≡ q
+    → then (then v (λ ys. Ok (x ∷ ys))) (λ ys. then (or_fault o at p) (λ _. Ok (xs ++ ys))) ≡ then v (λ ys. then (or_fault o at q) (λ _. Ok ((xs ++ x ∷ []) ++ ys)))
+regroup (Ok ys) o at p q x xs e = λ i. then (or_fault o at (e i)) (λ _. Ok (sym (append_assoc xs (x ∷ []) ys) i))
+regroup (Err f) o at p q x xs e = refl
 
-pub on_more : {A P : Type 0} (f : Format A P) (k : ℕ) (at : Spot) (p : ℕ) (s : List ℕ) (x : A) (xs : List A) → 0 < k → f.value at p (f.piece s) ≡ Ok x → reads_on f k at p s xs ≡ reads_on f (k - 1) at (p + f.width) (f.left s) (xs ++ x ∷ [])
+-- a turn that read a number, a turn that met a fault, and the end
+pub number_read : (k : ℕ) (at : Spot) (p : ℕ) (s : List ℕ) (x : ℕ) (xs : List ℕ) → 0 < k → or_fault (numeral (next s)) at p ≡ Ok x
+    → numbers_on k at p s xs ≡ numbers_on (k - 1) at (p + 1) (past s) (xs ++ x ∷ [])
 unfolding many_pieces many_left many_values
-on_more f zero at p s x xs h e = absurd (omega arith)
-on_more f (suc k) at p s x xs h e =
-    ap (λ v. then (then v (λ y. then (many_values f at (p + f.width) (many_pieces f k (f.left s))) (λ ys. Ok (y ∷ ys)))) (λ ys. Ok (xs ++ ys))) e
-    ∙ regroup (many_values f at (p + f.width) (many_pieces f k (f.left s))) x xs
-    ∙ ap (λ j. reads_on f j at (p + f.width) (f.left s) (xs ++ x ∷ [])) (let q : k ≡ suc k - 1 = omega arith in q)
+number_read zero at p s x xs h e = absurd (omega arith)
+number_read (suc k) at p s x xs h e =
+    let less : suc k - 1 ≡ k = omega arith in
+    rw (e, less) (regroup (many_values (follows number) at (p + 1) (many_pieces (follows number) k (past s))) (nothing (many_left (follows number) k (past s))) at (p + suc k) (p + 1 + k) x xs (omega arith))
 
-pub on_fault : {A P : Type 0} (f : Format A P) (k : ℕ) (at : Spot) (p : ℕ) (s : List ℕ) (xs : List A) (d : FieldFault) → 0 < k → f.value at p (f.piece s) ≡ Err d → reads_on f k at p s xs ≡ Err d
+pub number_faulty : (k : ℕ) (at : Spot) (p : ℕ) (s xs : List ℕ) (f : FieldFault) → 0 < k → or_fault (numeral (next s)) at p ≡ Err f → numbers_on k at p s xs ≡ Err f
 unfolding many_pieces many_left many_values
-on_fault f zero at p s xs d h e = absurd (omega arith)
-on_fault f (suc k) at p s xs d h e = ap (λ v. then (then v (λ y. then (many_values f at (p + f.width) (many_pieces f k (f.left s))) (λ ys. Ok (y ∷ ys)))) (λ ys. Ok (xs ++ ys))) e
+number_faulty zero at p s xs f h e = absurd (omega arith)
+number_faulty (suc k) at p s xs f h e = rw e refl
 
-pub on_none : {A P : Type 0} (f : Format A P) (k : ℕ) (at : Spot) (p : ℕ) (s : List ℕ) (xs : List A) → k ≡ 0 → reads_on f k at p s xs ≡ Ok xs
+pub numbers_end : (k : ℕ) (at : Spot) (p : ℕ) (s xs : List ℕ) → k ≡ 0 → numbers_on k at p s xs ≡ then (or_fault (nothing s) at p) (λ _. Ok xs)
 unfolding many_pieces many_left many_values
-on_none f zero at p s xs e = ap Ok (append-nil xs)
-on_none f (suc k) at p s xs e = absurd (omega arith)
-
-pub left_more : {A P : Type 0} (f : Format A P) (k : ℕ) (s : List ℕ) → 0 < k → many_left f k s ≡ many_left f (k - 1) (f.left s)
-unfolding many_pieces many_left many_values
-left_more f zero s h = absurd (omega arith)
-left_more f (suc k) s h = ap (λ j. many_left f j (f.left s)) (let q : k ≡ suc k - 1 = omega arith in q)
-
-pub left_none : {A P : Type 0} (f : Format A P) (k : ℕ) (s : List ℕ) → k ≡ 0 → many_left f k s ≡ s
-unfolding many_pieces many_left many_values
-left_none f zero s e = refl
-left_none f (suc k) s e = absurd (omega arith)
-
--- with no values before them
-then_same : {A : Type 0} (v : Result (List A) FieldFault) → then v (λ ys. Ok ([] ++ ys)) ≡ v
-then_same (Ok ys) = refl
-then_same (Err e) = refl
-
-pub on_all : {A P : Type 0} (f : Format A P) (k : ℕ) (at : Spot) (p : ℕ) (s : List ℕ) → reads_on f k at p s [] ≡ many_values f at p (many_pieces f k s)
-on_all f k at p s = then_same (many_values f at p (many_pieces f k s))
-
--- a loop over k numbers that is done: what is left decides
-pub all_read : (k i : ℕ) (at : Spot) (p : ℕ) (s row all : List ℕ) → k ≤ i → length all ≡ k → many_left (follows number) (k - i) row ≡ many_left (follows number) k s → reads_on (follows number) (k - i) at (p + i) row (take i all) ≡ reads_on (follows number) k at p s [] → numbers_of k at p s ≡ then (or_fault (nothing row) at (p + k)) (λ _. Ok all)
-all_read k i at p s row all h long left read =
-    let none : k - i ≡ 0 = omega arith in
-    let values : many_values (follows number) at p (many_pieces (follows number) k s) ≡ Ok all = sym (on_all (follows number) k at p s) ∙ sym read ∙ on_none (follows number) (k - i) at (p + i) row (take i all) none ∙ ap Ok (take_all i all (omega (arith, long))) in
-    let rest : many_left (follows number) k s ≡ row = sym left ∙ left_none (follows number) (k - i) row none in
-    ap (λ v. then v (λ xs. then (or_fault (nothing (many_left (follows number) k s)) at (p + k)) (λ _. Ok xs))) values
-    ∙ ap (λ t. then (or_fault (nothing t) at (p + k)) (λ _. Ok all)) rest
+numbers_end zero at p s xs e = rw (add-zero, append-nil) refl
+numbers_end (suc k) at p s xs e = absurd (omega arith)

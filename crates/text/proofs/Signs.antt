@@ -1,5 +1,5 @@
 -- Signed numbers and their texts. Assumes nothing.
-use Rattle.std.proofs.Common.{◌≡◌, ℕ, zero, suc, ◌-◌, ◌^◌, ◌<◌, true, false, eqb, List, [], ◌∷◌, length, get_or, drop, ℤ, pos, negsuc, nat_abs, Some, None, decimal, Option, sym, refl, ap, ◌∙◌, subst, ⊎_elim, arith}
+use Rattle.std.proofs.Common.{◌≡◌, ℕ, zero, suc, ◌^◌, ◌<◌, true, false, eqb, List, [], ◌∷◌, length, get_or, drop, ℤ, pos, negsuc, nat_abs, Some, None, decimal, Option, sym, refl, ap, ◌∙◌, subst, ⊎_elim, arith}
 use lib.Signed.{lt_z}
 use Rattle.std.specs.Fmt.{signed_decimal}
 use Rattle.std.proofs.lemmas.Bool.{cases_Bool, cond-true, cond-false, ne_eqb, eq-eqb, eqb-true, ltb-true}
@@ -17,10 +17,6 @@ pub signed_minus : (s : List ℕ) → 0 < length s → get_or s 0 0 ≡ 45 → s
 unfolding signed_numeral
 signed_minus [] h e = absurd (omega arith)
 signed_minus (c ∷ s) h e = cond-true (eqb c 45) (minus (numeral s)) (plus (numeral (c ∷ s))) (eq-eqb c 45 e)
-
-pub minus_some : (n : ℕ) → 0 < n → minus (Some n) ≡ Some (negsuc (n - 1))
-minus_some zero h = absurd (omega arith)
-minus_some (suc n) h = let p : n ≡ suc n - 1 = omega arith in ap (λ k. Some (negsuc k)) p
 
 -- a number begins with a digit, and so with no minus
 no_minus : (n : ℕ) → n < 10 ^ 11 → 0 < length (decimal n) → get_or (decimal n) 0 0 ≡ 45 → ⊥

@@ -3,11 +3,11 @@
 // The sections of a sheet, by their letters.
 #[derive(Clone, Copy)]
 pub enum Section {
-    Y,
-    Z,
-    R,
-    L,
-    T,
+    Y = b'Y' as isize,
+    Z = b'Z' as isize,
+    R = b'R' as isize,
+    L = b'L' as isize,
+    T = b'T' as isize,
 }
 
 // Where a line stands: its section and its number.

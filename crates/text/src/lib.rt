@@ -9,5 +9,5 @@ pub mod reader;
 mod values;
 pub mod writing;
 
-pub use cuts::{cut_line, first_field, next_field};
+pub use cuts::{Lines, cut_line, first_field, next_field};
 pub use numbers::{number, numbers_stand, signed};

@@ -7,6 +7,8 @@ mod cutting;
 mod parts;
 
 // `row` is what is left of the line, with the space in front of the next field, and `rest` the text after the line.
+// Nothing of the type bounds `place`, since a missing field takes no byte of the line. So who asks for a further field says that
+// few were asked for: a count that stops at its greatest value would stand as a `min` in each clause on places.
 #[derive(Drop)]
 pub struct Reader<'a> {
     row: &'a [u8],

@@ -19,25 +19,21 @@ impl Field<'_> {
         }
     }
 
+    // `number`, `signed`: a line each, since each has a definition of its own for what the field says.
     pub fn number(&self) -> Result<u64, FieldFault>
         ensures { result ≡ or_fault (numeral self.now.bytes.now) self.now.spot self.now.place }
     {
-        match number(self.bytes) {
-            Some(n) => Ok(n),
-            None => Err(self.fault()),
-        }
+        number(self.bytes).ok_or(self.fault())
     }
 
     pub fn signed(&self) -> Result<i64, FieldFault>
         ensures { result ≡ or_fault (signed_numeral self.now.bytes.now) self.now.spot self.now.place }
     {
-        match signed(self.bytes) {
-            Some(n) => Ok(n),
-            None => Err(self.fault()),
-        }
+        signed(self.bytes).ok_or(self.fault())
     }
 
-    // The field is the one letter `c`, or at fault.
+    // The field is the one letter `c`, or at fault. An `if`, here and in `nothing`: with no value
+    // to answer, `then_some(()).ok_or(..)` is the longer way to say it.
     pub fn fixed(&self, c: u8) -> Result<(), FieldFault>
         ensures { result ≡ or_fault (only_letter c self.now.bytes.now) self.now.spot self.now.place }
     {
@@ -52,10 +48,7 @@ impl Field<'_> {
     pub fn is_letter(&self, c: u8) -> bool
         ensures { result ≡ letter_is c self.now.bytes.now }
     {
-        match self.bytes {
-            [x] => *x == c,
-            _ => false,
-        }
+        matches!(self.bytes, [x] if *x == c)
     }
 
     // One capital letter.
@@ -63,7 +56,7 @@ impl Field<'_> {
         ensures { result ≡ or_fault (capital self.now.bytes.now) self.now.spot self.now.place }
     {
         match self.bytes {
-            [c] if *c >= b'A' && *c <= b'Z' => Ok(*c),
+            [c] if c.is_ascii_uppercase() => Ok(*c),
             _ => Err(self.fault()),
         }
     }

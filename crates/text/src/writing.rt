@@ -1,106 +1,107 @@
-// Writing into the caller's buffer: each function puts its text at a place, where there is room for it, and answers
-// where the text ends. So a text put into no buffer at all is counted.
-ghost use Rattle.std.specs.Prelude.{◌≡◌, ℕ, min, List, [], ◌∷◌, length, decimal, nat_lt};
-ghost use Rattle.std.specs.Fmt.{signed_decimal};
+// Writing into the caller's buffer: a writer puts each text where the one before it ends, if there is room for it. So a
+// text that is put into no buffer at all is counted.
+ghost use Rattle.std.specs.Prelude.{◌≡◌, ℕ, min, List, [], ◌∷◌, length, nat_lt};
 ghost use Rattle.std.specs.List.{flat_map};
-ghost use Rattle.text.specs.Buffer.{Puts, Wrote, last_place};
-ghost use Rattle.text.specs.Formats.{follows, number, signed_number, letter};
+ghost use Rattle.text.specs.Buffer.{with_text, Wrote, last_place};
+ghost use Rattle.text.specs.Formats.{follows, number};
 
-pub fn put_byte(out: &mut [u8], at: usize, b: u8) -> usize
-    ensures { Puts at (b ∷ []) out.old out.new result }
-{
-    if at >= out.len() {
-        return at.saturating_add(1);
+use itoa::{Buffer, Integer};
+
+// A buffer, and the place in it where the next text goes.
+#[derive(Drop)]
+pub struct Writer<'a> {
+    out: &'a mut [u8],
+    at: usize,
+}
+
+impl<'a> Writer<'a> {
+    // A writer whose next text goes to a place of the buffer.
+    pub fn new(out: &'a mut [u8], at: usize) -> Writer<'a>
+        ensures buffer { result.out ≡ out.entry }
+        ensures place { result.at ≡ at }
+    {
+        Writer { out, at } // with nothing put yet
     }
-    out[at] = b;
-    at + 1
 }
 
-pub fn put_bytes(out: &mut [u8], at: usize, bytes: &[u8]) -> usize
-    ensures { Puts at bytes.now out.old out.new result }
-{
-    let mut end = at;
-    for b in bytes {
-        end = put_byte(out, end, *b);
+#[tactic(auto, using(crate::proofs::Pastes::putting))]
+impl Writer<'_> {
+    // Where the next text goes: the end of what was put.
+    pub fn place(&self) -> usize
+        ensures { result ≡ self.now.at }
+    {
+        self.at // counted also where there was no room
     }
-    end
-}
 
-pub fn put_number(out: &mut [u8], at: usize, n: u64) -> usize
-    ensures { Puts at (decimal n) out.old out.new result }
-{
-    if n < 10 {
-        return put_byte(out, at, b'0' + n as u8);
+    #[tactic(auto, using(crate::proofs::Pastes::with_byte, crate::proofs::Pastes::with_past))]
+    pub fn byte(&mut self, b: u8)
+        ensures { self.new ≡ with_text (b ∷ []) self.old }
+    {
+        let end = self.at.saturating_add(1);
+        if self.at >= self.out.len() {
+            self.at = end;
+            return;
+        }
+        self.out[self.at] = b;
+        self.at = end;
     }
-    let end = put_number(out, at, n / 10);
-    put_byte(out, end, b'0' + (n % 10) as u8)
-}
 
-// A minus stands before a number below nil.
-pub fn put_signed(out: &mut [u8], at: usize, n: i64) -> usize
-    ensures { Puts at (signed_decimal n) out.old out.new result }
-{
-    let size = n.unsigned_abs();
-    if n < 0 {
-        let minus = put_byte(out, at, b'-');
-        return put_number(out, minus, size);
+    pub fn bytes(&mut self, bytes: &[u8])
+        ensures { self.new ≡ with_text bytes.now self.old }
+    {
+        for b in bytes {
+            self.byte(*b);
+        }
     }
-    put_number(out, at, size)
-}
 
-// A later field of a line, after its space: a number, a signed number, a letter.
-pub fn put_later(out: &mut [u8], at: usize, n: u64) -> usize
-    ensures { Puts at ((follows number).text n) out.old out.new result }
-{
-    let gap = put_byte(out, at, b' ');
-    put_number(out, gap, n)
-}
-
-pub fn put_later_signed(out: &mut [u8], at: usize, n: i64) -> usize
-    ensures { Puts at ((follows signed_number).text n) out.old out.new result }
-{
-    let gap = put_byte(out, at, b' ');
-    put_signed(out, gap, n)
-}
-
-pub fn put_later_letter(out: &mut [u8], at: usize, b: u8) -> usize
-    ensures { Puts at ((follows letter).text b) out.old out.new result }
-{
-    let gap = put_byte(out, at, b' ');
-    put_byte(out, gap, b)
-}
-
-// Later numbers of a line, each after its space.
-pub fn put_numbers(out: &mut [u8], at: usize, numbers: &[u64]) -> usize
-    ensures { Puts at (flat_map (follows number).text numbers.now) out.old out.new result }
-{
-    let mut end = at;
-    for n in numbers {
-        end = put_later(out, end, *n);
+    // By `itoa`, since a contract knows what `write!` puts only where that does not fail, and nothing here can.
+    pub fn number<I: Integer>(&mut self, n: I)
+        ensures { self.new ≡ with_text (I.text n) self.old }
+    {
+        self.bytes(Buffer::new().format(n).as_bytes());
     }
-    end
-}
 
-// The end of a line.
-pub fn put_end(out: &mut [u8], at: usize) -> usize
-    ensures { Puts at (10 ∷ []) out.old out.new result }
-{
-    put_byte(out, at, b'\n')
+    // A later field of a line, after its space.
+    pub fn later<I: Integer>(&mut self, n: I)
+        ensures { self.new ≡ with_text (32 ∷ I.text n) self.old }
+    {
+        self.byte(b' ');
+        self.number(n);
+    }
+
+    // Later numbers of a line, each after its space.
+    pub fn numbers(&mut self, numbers: &[u64])
+        ensures { self.new ≡ with_text (flat_map (follows number).text numbers.now) self.old }
+    {
+        for n in numbers {
+            self.later(*n);
+        }
+    }
+
+    // The end of a line.
+    pub fn end(&mut self)
+        ensures { self.new ≡ with_text (10 ∷ []) self.old }
+    {
+        self.byte(b'\n');
+    }
 }
 
 // What has a text.
 pub trait Text {
     ghost text: { Self → List ℕ };
 
-    fn put(&self, out: &mut [u8], at: usize) -> usize
-        ensures { Puts at (text self.now) out.old out.new result };
+    fn put(&self, w: &mut Writer<'_>)
+        ensures { w.new ≡ with_text (text self.now) w.old };
 }
 
 // The length of a text; one that is too long to be counted gives the greatest number.
+#[tactic(auto, unfolding(crate::specs::Buffer::with_text))]
 pub fn text_len<T: Text>(x: &T) -> usize
     ensures { result ≡ min (length (T.text x.now)) last_place }
 {
-    x.put(&mut [], 0)
+    let mut w = Writer::new(&mut [], 0);
+    x.put(&mut w);
+    w.place()
 }
 
 fn is_short(out: &[u8], len: usize) -> bool
@@ -116,5 +117,7 @@ pub fn write<T: Text, E: Drop>(x: &T, out: &mut [u8], short: E) -> Result<usize,
     if is_short(out, text_len(x)) {
         return Err(short);
     }
-    Ok(x.put(out, 0))
+    let mut w = Writer { out, at: 0 };
+    x.put(&mut w);
+    Ok(w.at)
 }

@@ -1,4 +1,6 @@
 // What the next line of a sheet says. Its contract speaks of the line's row and place alone, not of its fields.
+#![tactic(auto, unfolding(lines::specs::Lines::line_at))]
+
 ghost use Rattle.std.specs.Prelude.{◌≡◌};
 ghost use Rattle.text.specs.Fields.{stand, spot_at};
 ghost use Rattle.lines.specs.Kinds.{read_opening, read_count, read_entry};

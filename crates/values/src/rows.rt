@@ -2,145 +2,111 @@
 ghost use Rattle.std.specs.Prelude.{◌≡◌, ℕ, List};
 ghost use Rattle.text.specs.declared.faults.Spot.{Spot};
 ghost use Rattle.lines.specs.Kinds.{zone_row, resource_row, load_row, bilateral_row, auction_row, opening_row, count_row};
-ghost use Rattle.lines.specs.Lines.{Leads, Follows, Ends};
+ghost use Rattle.lines.specs.Lines.{OpeningParts, CountParts, ZoneParts, ResourceParts, LoadParts, BilateralParts, AuctionParts};
 
-use rules::entry::Entry;
+use lines::line::{
+    AuctionLine, BilateralLine, CountLine, LoadLine, OpeningLine, ResourceLine, ZoneLine,
+};
+use rules::entry::{Entry, Offer};
+use rules::rows::{Auction, Bilateral, Load, Trade, Zone};
 use text::faults::FieldFault;
-use text::reader::Field;
 
 // The entry of a zone's line.
-pub fn zone_row(price: Field<'_>, rents: Field<'_>) -> Result<Entry, FieldFault>
-    requires { rents.place ≡ 2 }
-    ensures { (s : List ℕ) (at : Spot) → Leads price.entry s at → Ends 0 rents.entry s at → result ≡ zone_row at s }
+pub fn zone_row(line: &ZoneLine<'_>) -> Result<Entry, FieldFault>
+    requires { line.now.rents.place ≡ 2 }
+    ensures { (s : List ℕ) (at : Spot) → ZoneParts line.now s at → result ≡ zone_row at s }
 {
-    let price = price.number()?;
-    let rents = rents.twelve()?;
-    Ok(Entry::Zone { price, rents })
+    let price = line.price.number()?;
+    let rents = line.rents.twelve()?;
+    Ok(Entry::Zone(Zone { price, rents }))
 }
 
 // The entry of a resource's line.
-pub fn resource_row(
-    zone: Field<'_>,
-    class: Field<'_>,
-    cleared: Field<'_>,
-    supplied: Field<'_>,
-    tail: Field<'_>,
-) -> Result<Entry, FieldFault>
-    ensures { (s : List ℕ) (at : Spot) → Leads zone.entry s at → Follows 0 class.entry s at → Follows 1 cleared.entry s at → Follows 2 supplied.entry s at → Ends 3 tail.entry s at → result ≡ resource_row at s }
+pub fn resource_row(line: &ResourceLine<'_>) -> Result<Entry, FieldFault>
+    ensures { (s : List ℕ) (at : Spot) → ResourceParts line.now s at → result ≡ resource_row at s }
 {
-    let zone = zone.number()?;
-    let letter = class.letter()?;
-    let cleared = cleared.number()?;
-    let supplied = supplied.number()?;
-    tail.nothing()?;
-    Ok(Entry::Resource {
+    let zone = line.zone.number()?;
+    let letter = line.class.letter()?;
+    let cleared = line.cleared.number()?;
+    let supplied = line.supplied.number()?;
+    line.tail.nothing()?;
+    Ok(Entry::Resource(Offer {
         zone,
         letter,
         cleared,
         supplied,
-    })
+    }))
 }
 
 // The entry of a load's line.
-pub fn load_row(
-    zone: Field<'_>,
-    obligation: Field<'_>,
-    tail: Field<'_>,
-) -> Result<Entry, FieldFault>
-    ensures { (s : List ℕ) (at : Spot) → Leads zone.entry s at → Follows 0 obligation.entry s at → Ends 1 tail.entry s at → result ≡ load_row at s }
+pub fn load_row(line: &LoadLine<'_>) -> Result<Entry, FieldFault>
+    ensures { (s : List ℕ) (at : Spot) → LoadParts line.now s at → result ≡ load_row at s }
 {
-    let zone = zone.number()?;
-    let obligation = obligation.signed()?;
-    tail.nothing()?;
-    Ok(Entry::Load { zone, obligation })
+    let zone = line.zone.number()?;
+    let obligation = line.obligation.signed()?;
+    line.tail.nothing()?;
+    Ok(Entry::Load(Load { zone, obligation }))
 }
 
 // The entry of a bilateral's line.
-pub fn bilateral_row(
-    letter: Field<'_>,
-    shedder: Field<'_>,
-    acquirer: Field<'_>,
-    first: Field<'_>,
-    last: Field<'_>,
-    quantity: Field<'_>,
-    price: Field<'_>,
-    tail: Field<'_>,
-) -> Result<Entry, FieldFault>
-    ensures { (s : List ℕ) (at : Spot) → Leads letter.entry s at → Follows 0 shedder.entry s at → Follows 1 acquirer.entry s at → Follows 2 first.entry s at → Follows 3 last.entry s at → Follows 4 quantity.entry s at → Follows 5 price.entry s at → Ends 6 tail.entry s at → result ≡ bilateral_row at s }
+pub fn bilateral_row(line: &BilateralLine<'_>) -> Result<Entry, FieldFault>
+    ensures { (s : List ℕ) (at : Spot) → BilateralParts line.now s at → result ≡ bilateral_row at s }
 {
-    letter.fixed(b'B')?;
-    let shedder = shedder.number()?;
-    let acquirer = acquirer.number()?;
-    let first = first.number()?;
-    let last = last.number()?;
-    let quantity = quantity.number()?;
-    let price = price.number()?;
-    tail.nothing()?;
-    Ok(Entry::Bilateral {
+    line.letter.fixed(b'B')?;
+    let shedder = line.shedder.number()?;
+    let acquirer = line.acquirer.number()?;
+    let first = line.first.number()?;
+    let last = line.last.number()?;
+    let quantity = line.quantity.number()?;
+    let price = line.price.number()?;
+    line.tail.nothing()?;
+    Ok(Entry::Trade(Trade::Bilateral(Bilateral {
         shedder,
         acquirer,
         first,
         last,
         quantity,
         price,
-    })
+    })))
 }
 
 // The entry of an auction's line.
-pub fn auction_row(
-    letter: Field<'_>,
-    resource: Field<'_>,
-    first: Field<'_>,
-    last: Field<'_>,
-    quantity: Field<'_>,
-    price: Field<'_>,
-    tail: Field<'_>,
-) -> Result<Entry, FieldFault>
-    ensures { (s : List ℕ) (at : Spot) → Leads letter.entry s at → Follows 0 resource.entry s at → Follows 1 first.entry s at → Follows 2 last.entry s at → Follows 3 quantity.entry s at → Follows 4 price.entry s at → Ends 5 tail.entry s at → result ≡ auction_row at s }
+pub fn auction_row(line: &AuctionLine<'_>) -> Result<Entry, FieldFault>
+    ensures { (s : List ℕ) (at : Spot) → AuctionParts line.now s at → result ≡ auction_row at s }
 {
-    letter.fixed(b'A')?;
-    let resource = resource.number()?;
-    let first = first.number()?;
-    let last = last.number()?;
-    let quantity = quantity.signed()?;
-    let price = price.number()?;
-    tail.nothing()?;
-    Ok(Entry::Auction {
+    line.letter.fixed(b'A')?;
+    let resource = line.resource.number()?;
+    let first = line.first.number()?;
+    let last = line.last.number()?;
+    let quantity = line.quantity.signed()?;
+    let price = line.price.number()?;
+    line.tail.nothing()?;
+    Ok(Entry::Trade(Trade::Auction(Auction {
         resource,
         first,
         last,
         quantity,
         price,
-    })
+    })))
 }
 
 // The year and the peak of a line that opens the book.
-pub fn opening_row(
-    letter: Field<'_>,
-    year: Field<'_>,
-    peak: Field<'_>,
-    tail: Field<'_>,
-) -> Result<(u64, u64), FieldFault>
-    ensures { (s : List ℕ) (at : Spot) → Leads letter.entry s at → Follows 0 year.entry s at → Follows 1 peak.entry s at → Ends 2 tail.entry s at → result ≡ opening_row at s }
+pub fn opening_row(line: &OpeningLine<'_>) -> Result<(u64, u64), FieldFault>
+    ensures { (s : List ℕ) (at : Spot) → OpeningParts line.now s at → result ≡ opening_row at s }
 {
-    letter.fixed(b'Y')?;
-    let year = year.number()?;
-    let peak = peak.number()?;
-    tail.nothing()?;
+    line.letter.fixed(b'Y')?;
+    let year = line.year.number()?;
+    let peak = line.peak.number()?;
+    line.tail.nothing()?;
     Ok((year, peak))
 }
 
 // The count of a line whose letter is `c`.
-pub fn count_row(
-    c: u8,
-    letter: Field<'_>,
-    count: Field<'_>,
-    tail: Field<'_>,
-) -> Result<u64, FieldFault>
-    ensures { (s : List ℕ) (at : Spot) → Leads letter.entry s at → Follows 0 count.entry s at → Ends 1 tail.entry s at → result ≡ count_row c at s }
+pub fn count_row(c: u8, line: &CountLine<'_>) -> Result<u64, FieldFault>
+    ensures { (s : List ℕ) (at : Spot) → CountParts line.now s at → result ≡ count_row c at s }
 {
-    letter.fixed(c)?;
-    let count = count.number()?;
-    tail.nothing()?;
+    line.letter.fixed(c)?;
+    let count = line.count.number()?;
+    line.tail.nothing()?;
     Ok(count)
 }

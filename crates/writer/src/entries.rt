@@ -3,9 +3,10 @@ ghost use Rattle.std.specs.Prelude.{◌≡◌};
 ghost use Rattle.rules.specs.declared.entry.Entry.{Entry};
 ghost use Rattle.rules.specs.Replays.{zone_entry, resource_entry, load_entry, trade_entry};
 
-use rules::entry::Entry;
+use rules::entry::{Entry, Offer};
 use rules::rows::{Load, Resource, Trade, Zone};
 
+// No `From`: a list's text needs the entry as a function of its row, and `From` says it by a relation.
 pub trait Stands {
     ghost stands: { Self → Entry };
 
@@ -17,10 +18,7 @@ impl Stands for Zone {
     ghost stands = { zone_entry };
 
     fn as_entry(&self) -> Entry {
-        Entry::Zone {
-            price: self.price,
-            rents: self.rents,
-        }
+        Entry::Zone(*self)
     }
 }
 
@@ -28,12 +26,12 @@ impl Stands for Resource {
     ghost stands = { resource_entry };
 
     fn as_entry(&self) -> Entry {
-        Entry::Resource {
+        Entry::Resource(Offer {
             zone: self.zone,
-            letter: self.class.letter(),
+            letter: u8::from(self.class),
             cleared: self.cleared,
             supplied: self.supplied,
-        }
+        })
     }
 }
 
@@ -41,10 +39,7 @@ impl Stands for Load {
     ghost stands = { load_entry };
 
     fn as_entry(&self) -> Entry {
-        Entry::Load {
-            zone: self.zone,
-            obligation: self.obligation,
-        }
+        Entry::Load(*self)
     }
 }
 
@@ -52,35 +47,6 @@ impl Stands for Trade {
     ghost stands = { trade_entry };
 
     fn as_entry(&self) -> Entry {
-        match *self {
-            Trade::Bilateral {
-                shedder,
-                acquirer,
-                first,
-                last,
-                quantity,
-                price,
-            } => Entry::Bilateral {
-                shedder,
-                acquirer,
-                first,
-                last,
-                quantity,
-                price,
-            },
-            Trade::Auction {
-                resource,
-                first,
-                last,
-                quantity,
-                price,
-            } => Entry::Auction {
-                resource,
-                first,
-                last,
-                quantity,
-                price,
-            },
-        }
+        Entry::Trade(*self)
     }
 }

@@ -1,115 +1,92 @@
 // The lines of a sheet, put into a buffer.
-ghost use Rattle.std.specs.Prelude.{map};
-ghost use Rattle.text.specs.Buffer.{Puts};
-ghost use Rattle.lines.specs.Kinds.{entry_text, opening, auction};
+#![tactic(auto, using(text::proofs::Pastes::putting))]
+
+ghost use Rattle.std.specs.Prelude.{◌≡◌, map};
+ghost use Rattle.text.specs.Buffer.{with_text};
+ghost use Rattle.lines.specs.Kinds.{entry_text, opening, bilateral, auction, of_bilateral, of_auction};
 ghost use Rattle.sheet.specs.Sheets.{line, lines, section_text};
 
 use crate::entries::Stands;
 use lines::line::section_letter;
 use rules::entry::Entry;
+use rules::rows::{Auction, Bilateral, Trade};
 use text::faults::Section;
-use text::writing::{
-    put_byte, put_end, put_later, put_later_letter, put_later_signed, put_number, put_numbers,
-};
+use text::writing::Writer;
 
 // The line that opens the book.
-pub fn put_opening(out: &mut [u8], at: usize, year: u64, peak: u64) -> usize
-    ensures { Puts at (line (opening.text (tt, (year, peak)))) out.old out.new result }
+pub fn put_opening(w: &mut Writer<'_>, year: u64, peak: u64)
+    ensures { w.new ≡ with_text (line (opening.text (tt, (year, peak)))) w.old }
 {
-    let letter = put_byte(out, at, b'Y');
-    let year = put_later(out, letter, year);
-    let peak = put_later(out, year, peak);
-    put_end(out, peak)
+    w.byte(b'Y');
+    w.later(year);
+    w.later(peak);
+    w.end();
 }
 
-fn put_auction(
-    out: &mut [u8],
-    at: usize,
-    resource: u64,
-    first: u64,
-    last: u64,
-    quantity: i64,
-    price: u64,
-) -> usize
-    ensures { Puts at (auction.text (tt, (resource, (first, (last, (quantity, price)))))) out.old out.new result }
+fn put_bilateral(w: &mut Writer<'_>, trade: Bilateral)
+    ensures { w.new ≡ with_text (bilateral.text (of_bilateral trade)) w.old }
 {
-    let end = put_byte(out, at, b'A');
-    let end = put_later(out, end, resource);
-    let end = put_later(out, end, first);
-    let end = put_later(out, end, last);
-    let end = put_later_signed(out, end, quantity);
-    put_later(out, end, price)
+    w.byte(b'B');
+    w.numbers(&[
+        trade.shedder,
+        trade.acquirer,
+        trade.first,
+        trade.last,
+        trade.quantity,
+        trade.price,
+    ]);
+}
+
+fn put_auction(w: &mut Writer<'_>, trade: Auction)
+    ensures { w.new ≡ with_text (auction.text (of_auction trade)) w.old }
+{
+    w.byte(b'A');
+    w.numbers(&[trade.resource, trade.first, trade.last]);
+    w.later(trade.quantity);
+    w.later(trade.price);
 }
 
 // An entry, without its line's end.
-fn put_entry(out: &mut [u8], at: usize, entry: Entry) -> usize
-    ensures { Puts at (entry_text entry) out.old out.new result }
+fn put_entry(w: &mut Writer<'_>, entry: Entry)
+    ensures { w.new ≡ with_text (entry_text entry) w.old }
 {
     match entry {
-        Entry::Zone { price, rents } => {
-            let end = put_number(out, at, price);
-            put_numbers(out, end, &rents)
+        Entry::Zone(zone) => {
+            w.number(zone.price);
+            w.numbers(&zone.rents);
         }
-        Entry::Resource {
-            zone,
-            letter,
-            cleared,
-            supplied,
-        } => {
-            let end = put_number(out, at, zone);
-            let end = put_later_letter(out, end, letter);
-            put_numbers(out, end, &[cleared, supplied])
+        Entry::Resource(offer) => {
+            w.number(offer.zone);
+            w.byte(b' ');
+            w.byte(offer.letter);
+            w.numbers(&[offer.cleared, offer.supplied]);
         }
-        Entry::Load { zone, obligation } => {
-            let end = put_number(out, at, zone);
-            put_later_signed(out, end, obligation)
+        Entry::Load(load) => {
+            w.number(load.zone);
+            w.later(load.obligation);
         }
-        Entry::Bilateral {
-            shedder,
-            acquirer,
-            first,
-            last,
-            quantity,
-            price,
-        } => {
-            let end = put_byte(out, at, b'B');
-            put_numbers(out, end, &[shedder, acquirer, first, last, quantity, price])
-        }
-        Entry::Auction {
-            resource,
-            first,
-            last,
-            quantity,
-            price,
-        } => put_auction(out, at, resource, first, last, quantity, price),
+        Entry::Trade(Trade::Bilateral(trade)) => put_bilateral(w, trade),
+        Entry::Trade(Trade::Auction(trade)) => put_auction(w, trade),
     }
-}
-
-// The line of an entry.
-fn put_line(out: &mut [u8], at: usize, entry: Entry) -> usize
-    ensures { Puts at (line (entry_text entry)) out.old out.new result }
-{
-    let end = put_entry(out, at, entry);
-    put_end(out, end)
 }
 
 // The lines of a section's entries.
-fn put_lines<E: Stands>(out: &mut [u8], at: usize, rows: &[E]) -> usize
-    ensures { Puts at (lines (map E.stands rows.now)) out.old out.new result }
+fn put_lines<E: Stands>(w: &mut Writer<'_>, rows: &[E])
+    ensures { w.new ≡ with_text (lines (map E.stands rows.now)) w.old }
 {
-    let mut end = at;
     for row in rows {
-        end = put_line(out, end, row.as_entry());
+        put_entry(w, row.as_entry());
+        w.end();
     }
-    end
 }
 
 // A section, after the line with its letter and count.
-pub fn put_section<E: Stands>(out: &mut [u8], at: usize, section: Section, rows: &[E]) -> usize
-    ensures { Puts at (section_text section (map E.stands rows.now)) out.old out.new result }
+#[tactic(auto, using(text::proofs::Pastes::putting), unfolding(sheet::specs::Sheets::section_text))]
+pub fn put_section<E: Stands>(w: &mut Writer<'_>, section: Section, rows: &[E])
+    ensures { w.new ≡ with_text (section_text section (map E.stands rows.now)) w.old }
 {
-    let letter = put_byte(out, at, section_letter(section));
-    let count = put_later(out, letter, rows.len() as u64);
-    let end = put_end(out, count);
-    put_lines(out, end, rows)
+    w.byte(section_letter(section));
+    w.later(rows.len());
+    w.end();
+    put_lines(w, rows);
 }

@@ -8,7 +8,7 @@ ghost use Rattle.book.specs.View.{view};
 
 use super::Book;
 use crate::ticket::MonthTicket;
-use payments::{deduction, payment};
+use payments::{Account, RentsBefore};
 use rules::answers::Terms;
 use rules::refusal::Refusal;
 use rules::rows::Stage;
@@ -17,10 +17,7 @@ use rules::rows::Stage;
 fn test_month(month: u64) -> Result<(), Refusal>
     ensures { result ≡ month_test month }
 {
-    if month < 1 || month > 12 {
-        return Err(Refusal::Months);
-    }
-    Ok(())
+    Refusal::Months.when(!(1..=12).contains(&month))
 }
 
 impl Book {
@@ -40,8 +37,17 @@ impl Book {
     {
         self.test_stage(ticket.month, Stage::Running)?;
         let found = self.standing.resource(resource)?;
-        let payment = payment(&self.standing, resource, &found, self.month);
-        let deduction = deduction(&self.standing, &[], resource, &found, self.month);
+        let account = Account {
+            standing: &self.standing,
+            number: resource,
+            resource: &found,
+        };
+        let rents = RentsBefore {
+            entered: &[],
+            month: self.month,
+        };
+        let payment = account.payment(self.month);
+        let deduction = account.deduction(&rents);
         Ok(Terms { payment, deduction })
     }
 }

@@ -1,8 +1,9 @@
 // A book is made empty, and opened for one period.
 ghost use Rattle.std.specs.Prelude.{◌≡◌, IfOk};
 ghost use Rattle.rules.specs.Calls.{open_call};
+ghost use Rattle.rules.specs.Replays.{empty};
 ghost use Rattle.rules.specs.Tests.{year_test, peak_test};
-ghost use Rattle.book.specs.View.{view, empty, setup_ticket, opening};
+ghost use Rattle.book.specs.View.{view, setup_ticket, opening};
 
 use super::Book;
 use crate::ticket::SetupTicket;
@@ -14,19 +15,13 @@ use std::alloc::{AllocError, Global};
 fn test_year(year: u64) -> Result<(), Refusal>
     ensures { result ≡ year_test year }
 {
-    if year < 2010 || year > 2098 {
-        return Err(Refusal::Year);
-    }
-    Ok(())
+    Refusal::Year.when(!(2010..=2098).contains(&year))
 }
 
 fn test_peak(peak: u64) -> Result<(), Refusal>
     ensures { result ≡ peak_test peak }
 {
-    if peak < 1 || peak > 100000 {
-        return Err(Refusal::Peak);
-    }
-    Ok(())
+    Refusal::Peak.when(!(1..=100000).contains(&peak))
 }
 
 impl Book {
@@ -45,7 +40,7 @@ impl Book {
     }
 
     // Opens the book for the period that begins in June of `year`. What stood in it is gone.
-    #[tactic(auto, using(crate::proofs::Keeps::keeps_opening, crate::proofs::Keeps::kept_of))]
+    #[tactic(auto, using(crate::proofs::Keeps::keeps_opening))]
     pub fn open(&mut self, year: u64, peak: u64) -> Result<SetupTicket, Refusal>
         ensures { (result, view self.new) ≡ opening setup_ticket (open_call (view self.old) year peak) }
     {

@@ -8,7 +8,7 @@ use crate::ticket::{MonthTicket, SetupTicket};
 use rules::rows::Stage;
 use rules::ticket::Returned;
 
-// The first month runs.
+// The first month runs. A function of its own, so that another state or month is refused at its contract.
 fn june() -> (Stage, u64)
     ensures { result ≡ (Stage.Running, 1) }
 {
@@ -20,9 +20,8 @@ impl Book {
     pub fn begin(&mut self, ticket: SetupTicket) -> Result<MonthTicket, Returned<SetupTicket>>
         ensures { (result, view self.new) ≡ spending ticket month_ticket (begin_call (view self.old) ticket.month) }
     {
-        if let Err(refusal) = self.test_stage(ticket.month, Stage::SetUp) {
-            return Err(Returned { refusal, ticket });
-        }
+        self.test_stage(ticket.month, Stage::SetUp)
+            .map_err(|refusal| Returned { refusal, ticket })?;
         let (stage, month) = june();
         self.stage = stage;
         self.month = month;

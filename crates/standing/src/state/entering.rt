@@ -6,6 +6,8 @@ ghost use Rattle.standing.specs.View.{entries_of};
 
 use super::Standing;
 use crate::limits::*;
+use rules::class::Class;
+use rules::entry::Offer;
 use rules::refusal::Refusal;
 use rules::rows::{Load, Resource, Zone};
 
@@ -14,58 +16,53 @@ impl Standing {
     pub fn test_zone(&self, zone: u64) -> Result<(), Refusal>
         ensures { result ≡ zone_test (entries_of self.now) zone }
     {
-        if zone < 1 || zone > self.zones.len() as u64 {
-            return Err(Refusal::ZoneUnknown);
-        }
-        Ok(())
+        Refusal::ZoneUnknown.when(self.zone(zone).is_none())
     }
 
     // Enters a zone with its price and its twelve rents before June, and answers its number.
-    pub fn enter_zone(&mut self, price: u64, rents: &[u64; 12]) -> Result<u64, Refusal>
-        ensures { (result, entries_of self.new) ≡ enter_zone (entries_of self.old) price rents.now }
+    pub fn enter_zone(&mut self, zone: Zone) -> Result<u64, Refusal>
+        ensures { (result, entries_of self.new) ≡ enter_zone (entries_of self.old) zone.price zone.rents }
     {
-        test_room(8, self.zones.len(), Refusal::ZonesFull)?;
-        test_price(price)?;
-        test_rents(rents)?;
-        let rents = *rents;
-        self.zones.push_reserved(Zone { price, rents });
-        Ok(self.zones.len() as u64)
+        self.zones.test_room(Refusal::ZonesFull)?;
+        test_price(zone.price)?;
+        test_rents(&zone.rents)?;
+        Ok(self.zones.push(zone))
     }
 
     // Enters a resource by the letter of its class, and answers its number.
-    pub fn enter_resource(
-        &mut self,
-        zone: u64,
-        letter: u8,
-        cleared: u64,
-        supplied: u64,
-    ) -> Result<u64, Refusal>
-        ensures { (result, entries_of self.new) ≡ enter_resource (entries_of self.old) zone letter cleared supplied }
+    pub fn enter_resource(&mut self, offer: Offer) -> Result<u64, Refusal>
+        ensures { (result, entries_of self.new) ≡ enter_resource (entries_of self.old) offer.zone offer.letter offer.cleared offer.supplied }
     {
+        let Offer {
+            zone,
+            letter,
+            cleared,
+            supplied,
+        } = offer;
         self.test_zone(zone)?;
-        test_room(64, self.resources.len(), Refusal::ResourcesFull)?;
-        let class = test_class(letter)?;
+        self.resources.test_room(Refusal::ResourcesFull)?;
+        let class = Class::try_from(letter)?;
         test_cleared(cleared)?;
         test_supplied(cleared, supplied)?;
         let row = [cleared; 12];
-        self.resources.push_reserved(Resource {
-            zone,
-            class,
-            cleared,
-            supplied,
-            row,
-        });
-        Ok(self.resources.len() as u64)
+        Ok(
+            self.resources.push(Resource {
+                zone,
+                class,
+                cleared,
+                supplied,
+                row,
+            }),
+        )
     }
 
     // Enters a load with its obligation of every month, and answers its number.
-    pub fn enter_load(&mut self, zone: u64, obligation: i64) -> Result<u64, Refusal>
-        ensures { (result, entries_of self.new) ≡ enter_load (entries_of self.old) zone obligation }
+    pub fn enter_load(&mut self, load: Load) -> Result<u64, Refusal>
+        ensures { (result, entries_of self.new) ≡ enter_load (entries_of self.old) load.zone load.obligation }
     {
-        self.test_zone(zone)?;
-        test_room(32, self.loads.len(), Refusal::LoadsFull)?;
-        test_obligation(obligation)?;
-        self.loads.push_reserved(Load { zone, obligation });
-        Ok(self.loads.len() as u64)
+        self.test_zone(load.zone)?;
+        self.loads.test_room(Refusal::LoadsFull)?;
+        test_obligation(load.obligation)?;
+        Ok(self.loads.push(load))
     }
 }

@@ -4,6 +4,7 @@ ghost use Rattle.rules.specs.Ledger.{no_entries};
 ghost use Rattle.standing.specs.View.{entries_of};
 
 use super::Standing;
+use crate::register::Register;
 use std::alloc::{AllocError, Global};
 
 impl Standing {
@@ -11,15 +12,11 @@ impl Standing {
     pub fn new(heap: Global) -> Result<Standing, AllocError>
         ensures { IfOk result (λ s. entries_of s ≡ no_entries) }
     {
-        let zones = Vec::with_capacity(heap, 8)?;
-        let resources = Vec::with_capacity(heap, 64)?;
-        let loads = Vec::with_capacity(heap, 32)?;
-        let trades = Vec::with_capacity(heap, 128)?;
         Ok(Standing {
-            zones,
-            resources,
-            loads,
-            trades,
+            zones: Register::new(heap)?,
+            resources: Register::new(heap)?,
+            loads: Register::new(heap)?,
+            trades: Register::new(heap)?,
         })
     }
 

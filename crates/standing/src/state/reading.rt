@@ -1,12 +1,11 @@
 // The entries, by their numbers and in their order.
-ghost use Rattle.std.specs.Prelude.{◌≡◌, ◌≤◌, true, length, IfOk, vec_len, OnOk};
+ghost use Rattle.std.specs.Prelude.{◌≡◌, ◌≤◌, true, length, IfOk, OnOk};
 ghost use Rattle.rules.specs.Rows.{numbered};
 ghost use Rattle.rules.specs.Tests.{resource_test};
 ghost use Rattle.rules.specs.Within.{within};
 ghost use Rattle.standing.specs.View.{entries_of};
 
 use super::Standing;
-use crate::entry::entry;
 use rules::refusal::Refusal;
 use rules::rows::{Load, Resource, Trade, Zone};
 
@@ -14,20 +13,19 @@ impl Standing {
     // The resource of that number, counted from 1.
     pub fn resource(&self, number: u64) -> Result<Resource, Refusal>
         ensures same { result ≡ resource_test (entries_of self.now) number }
-        ensures stands { OnOk result ((1 ≤ number) × (number ≤ vec_len self.now.resources)) }
+        ensures stands { OnOk result ((1 ≤ number) × (number ≤ length self.now.resources)) }
         ensures limits { IfOk result (λ x. within x.row ≡ true) }
     {
-        match entry(&self.resources, number) {
-            Some(resource) => Ok(resource),
-            None => Err(Refusal::ResourceUnknown),
-        }
+        self.resources
+            .numbered(number)
+            .ok_or(Refusal::ResourceUnknown)
     }
 
     // The zone of that number, if there is one.
     pub fn zone(&self, number: u64) -> Option<Zone>
         ensures { result ≡ numbered (entries_of self.now).zones number }
     {
-        entry(&self.zones, number)
+        self.zones.numbered(number)
     }
 
     pub fn zones(&self) -> &[Zone]

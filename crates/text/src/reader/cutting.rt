@@ -15,7 +15,7 @@ impl<'a> Reader<'a> {
         ensures field { result.place ≡ 0 }
     {
         Reader {
-            row: &text[0..0],
+            row: &[],
             rest: text,
             spot: Spot { section, line: 0 },
             place: 0,
@@ -50,9 +50,7 @@ impl<'a> Reader<'a> {
         ensures { Began section self.old self.new result }
     {
         let spot = self.next_spot(section);
-        let Some((row, below)) = ended_line(self.rest) else {
-            return Err(LineDue { spot });
-        };
+        let (row, below) = ended_line(self.rest).ok_or(LineDue { spot })?;
         let (bytes, left) = first_field(row);
         self.row = left;
         self.rest = below;

@@ -28,15 +28,16 @@ impl<'a> Field<'a> {
     }
 
     // The twelve numbers of a part.
+    #[tactic(auto, using(crate::proofs::Repeats::number_read, crate::proofs::Repeats::number_faulty, crate::proofs::Repeats::numbers_end))]
     pub fn twelve(&self) -> Result<[u64; 12], FieldFault>
         requires { self.now.place < 80 }
         ensures { result ≡ numbers_of 12 self.now.spot self.now.place self.now.bytes.now }
     {
         let mut all = [0; 12];
         let mut part = *self;
-        for i in 0..12 {
+        for slot in all.iter_mut() {
             let (field, left) = part.split();
-            all[i] = field.number()?;
+            *slot = field.number()?;
             part = left;
         }
         part.nothing()?;

@@ -1,12 +1,11 @@
-use Rattle.std.proofs.Common.{◌≡◌, ◌+◌, ◌-◌, [], length, take}
-use Rattle.text.specs.Formats.{many_left, follows, number}
-use Rattle.text.proofs.Repeats.{reads_on}
+use Rattle.std.proofs.Common.{◌≡◌, ◌+◌, ◌-◌, take}
+use Rattle.text.specs.Formats.{numbers_of}
+use Rattle.text.proofs.Repeats.{numbers_on}
 use Rattle.text.proofs.reader.Field.twelve.Given as goal
 
-abbrev pub invariant-loop-i : goal.invariant-loop-i
-invariant-loop-i l =
-    (length l.all ≡ 12)
-    × (l.part.spot ≡ l.self.spot)
-    × (l.part.place ≡ l.self.place + l.i)
-    × (many_left (follows number) (12 - l.i) l.part.bytes.now ≡ many_left (follows number) 12 l.self.bytes.now)
-    × (reads_on (follows number) (12 - l.i) l.self.spot (l.self.place + l.i) l.part.bytes.now (take l.i l.all) ≡ reads_on (follows number) 12 l.self.spot l.self.place l.self.bytes.now [])
+abbrev pub invariant-loop-slot : goal.invariant-loop-slot
+invariant-loop-slot l = record {
+  spot : l.part.spot ≡ l.self.spot;
+  place : l.part.place ≡ l.self.place + l.slot-index;
+  numbers : numbers_on (12 - l.slot-index) l.part.spot l.part.place l.part.bytes.now (take l.slot-index l.slot-items) ≡ numbers_of 12 l.self.spot l.self.place l.self.bytes.now;
+}

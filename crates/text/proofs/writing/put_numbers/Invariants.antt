@@ -1,8 +1,0 @@
-use Rattle.std.proofs.Common.{take}
-use Rattle.std.specs.List.{flat_map}
-use Rattle.text.specs.Buffer.{Puts}
-use Rattle.text.specs.Formats.{follows, number}
-use Rattle.text.proofs.writing.put_numbers.Given as goal
-
-abbrev pub invariant-loop-n : goal.invariant-loop-n
-invariant-loop-n l = Puts l.at (flat_map (follows number).text (take l.n-index l.numbers)) l.initial.out l.out l.end
