@@ -13,6 +13,7 @@ pub enum RentRefusal {
 }
 
 impl RentRefusal {
+    // A method: its callers use an equation, and `From` gives a relation.
     pub fn number(self) -> u64
         ensures { result ≡ number_of self }
     {

@@ -2,7 +2,7 @@
 ghost use Rattle.std.specs.Prelude.{◌≡◌};
 ghost use Rattle.readings.specs.Rules.{at_most, first_at_most};
 
-// The score of a question that is not answered from the readings: nothing kept of 1.
+// The score of a question that is not answered from the readings: nothing kept of 1, as the rule says.
 pub const UNANSWERED: (u64, u64) = (0, 1);
 
 fn are_at_most(numbers: &[u64], limit: u64) -> bool

@@ -1,4 +1,4 @@
-// A source of either kind, by value: a list of calls holds sources of both kinds, with nothing beside it that owns them.
+// A source of either kind, by value: a list of calls is to hold sources of both kinds, with nothing beside it that owns them.
 // So no `&dyn`, which needs an owner, and no box, which needs the heap.
 ghost use Rattle.readings.specs.EitherSource.{source_of, source_lawful};
 

@@ -26,6 +26,7 @@ fn answer(rt: &HostRuntime, month: &Month) -> io::Result<()> {
 // An input that cannot be read ends the program with a message and status 1, and nothing on standard output.
 fn main(rt: HostRuntime) -> io::Result<ExitCode> {
     let text = input(&rt)?;
+    // both outcomes are told, each with its status
     match read_month(rt.alloc(), text.as_slice()) {
         Ok(month) => {
             answer(&rt, &month)?;

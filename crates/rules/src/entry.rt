@@ -5,6 +5,7 @@ use crate::rows::{Load, Trade, Zone};
 #[derive(Clone, Copy)]
 pub struct Offer {
     pub zone: u64,
+    // of any value: the book tests it, in its order
     pub letter: u8,
     pub cleared: u64,
     pub supplied: u64,

@@ -46,6 +46,7 @@ impl Writer<'_> {
         self.at = end;
     }
 
+    // This and `numbers` are a line each: what differs is the text that the contract names.
     pub fn bytes(&mut self, bytes: &[u8])
         ensures { self.new ≡ with_text bytes.now self.old }
     {

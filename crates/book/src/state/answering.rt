@@ -13,7 +13,7 @@ use rules::answers::Terms;
 use rules::refusal::Refusal;
 use rules::rows::Stage;
 
-// The number is that of a month.
+// The number is that of a month: a rule of its own over `Refusal::when`.
 fn test_month(month: u64) -> Result<(), Refusal>
     ensures { result ≡ month_test month }
 {

@@ -12,6 +12,7 @@ use rules::rows::Stage;
 use standing::Standing;
 use std::alloc::{AllocError, Global};
 
+// These two are rules of their own, with their refusals; what they share is `Refusal::when`.
 fn test_year(year: u64) -> Result<(), Refusal>
     ensures { result ≡ year_test year }
 {

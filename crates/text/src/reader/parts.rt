@@ -9,7 +9,8 @@ use crate::faults::FieldFault;
 use crate::reader::Field;
 
 impl<'a> Field<'a> {
-    // The first field of a part that begins with its space, and the part after it.
+    // The first field of a part that begins with its space, and the part after it. That the place is small is asked for, as of
+    // a reader, and for its reason.
     fn split(&self) -> (Field<'a>, Field<'a>)
         requires { self.now.place < 99 }
         ensures first { FieldIs result.0 (next self.now.bytes.now) self.now.spot self.now.place }
