@@ -22,11 +22,11 @@ use Rattle.lines.specs.Kinds.{opening, count, zone, resource, load, bilateral, a
 use Rattle.lines.specs.Lines.{line_at}
 
 -- the next line of a text, by what its row says
-line_due : {A : Type 0} (section : Section) (read : Spot → List ℕ → Result A LineFault) (p : Place) → ended p.rest ≡ false → line_at section read p ≡ Err (Due (spot_at section p))
+pub line_due : {A : Type 0} (section : Section) (read : Spot → List ℕ → Result A LineFault) (p : Place) → ended p.rest ≡ false → line_at section read p ≡ Err (Due (spot_at section p))
 unfolding line_at
 line_due section read p h = cond-false (ended p.rest) _ _ h
 
-line_here : {A : Type 0} (section : Section) (read : Spot → List ℕ → Result A LineFault) (p : Place) → ended p.rest ≡ true → line_at section read p ≡ then (read (spot_at section p) (row p.rest)) (λ x. Ok (x, pass p))
+pub line_here : {A : Type 0} (section : Section) (read : Spot → List ℕ → Result A LineFault) (p : Place) → ended p.rest ≡ true → line_at section read p ≡ then (read (spot_at section p) (row p.rest)) (λ x. Ok (x, pass p))
 unfolding line_at
 line_here section read p h = cond-true (ended p.rest) _ _ h
 

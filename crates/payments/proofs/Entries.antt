@@ -38,7 +38,7 @@ get_or_all P d [] i h a = h
 get_or_all P d (x ∷ xs) zero h a = a.0
 get_or_all P d (x ∷ xs) (suc i) h a = get_or_all P d xs i h a.1
 
-row_all : {X : Type 0} (P : X → Type 0) (d : X) (xs : List X) (n : ℕ) → P d → AllByRecursion P xs → P (row_of d xs n)
+pub row_all : {X : Type 0} (P : X → Type 0) (d : X) (xs : List X) (n : ℕ) → P d → AllByRecursion P xs → P (row_of d xs n)
 row_all P d xs zero h a = h
 row_all P d xs (suc i) h a = get_or_all P d xs i h a
 

@@ -1,6 +1,7 @@
 -- What it tells that no value is above a limit.
-use Rattle.std.proofs.Common.{◌≡◌, ℕ, zero, suc, ◌<◌, ◌≤◌, false, ltb, List, [], ◌∷◌, length, get_or, refl, arith}
+use Rattle.std.proofs.Common.{◌≡◌, ℕ, zero, suc, ◌*◌, ◌<◌, ◌≤◌, false, ltb, List, [], ◌∷◌, length, get_or, sum, refl, subst, arith}
 use Rattle.std.proofs.lemmas.Bool.{or_parts, or_from, ltb-false, le-ltb}
+use Rattle.std.proofs.ByRecursion.{sum_by_le}
 use Rattle.std.specs.List.{AllByRecursion}
 use Rattle.rules.specs.Tests.{any_above}
 
@@ -16,3 +17,7 @@ above_none limit (x ∷ xs) h = or_from (ltb limit x) (any_above limit xs) (le-l
 pub all_below : (limit : ℕ) (xs : List ℕ) → any_above limit xs ≡ false → AllByRecursion (λ x. x ≤ limit) xs
 all_below limit [] h = tt
 all_below limit (x ∷ xs) h = let p = or_parts (ltb limit x) (any_above limit xs) h in (ltb-false limit x p.0, all_below limit xs p.1)
+
+-- twelve values, none above the limit
+pub sum_of_twelve : (limit : ℕ) (xs : List ℕ) → length xs ≡ 12 → any_above limit xs ≡ false → sum xs ≤ 12 * limit
+sum_of_twelve limit xs n h = subst (λ (k : ℕ). sum xs ≤ k * limit) n (sum_by_le (λ x. x) limit xs (all_below limit xs h))

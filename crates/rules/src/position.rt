@@ -54,11 +54,13 @@ fn month_changed(change: Change, k: usize, held: u64) -> Option<u64>
     if !(change.first..=change.last).contains(&month) {
         return Some(held);
     }
-    // wide enough for a change of any size
-    (u128::from(held) + u128::from(change.acquired))
-        .checked_sub(u128::from(change.shed))
-        .filter(|after| *after <= 200000)
-        .map(|after| after as u64)
+    // the difference first, so that a change of any size is answered
+    let after = if change.acquired >= change.shed {
+        held.checked_add(change.acquired - change.shed)
+    } else {
+        held.checked_sub(change.shed - change.acquired)
+    };
+    after.filter(|after| *after <= 200000)
 }
 
 // What the change makes of a plain row, if every month stays within the limits. A row comes in and goes out plain, with its

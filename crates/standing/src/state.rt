@@ -18,5 +18,5 @@ pub struct Standing {
     resources: Register<Resource, 64>,
     loads: Register<Load, 32>,
     trades: Register<Trade, 128>,
-    ghost rows_within: { all_within resources ≡ true },
+    ghost rows_within: { all_within resources.entries.items ≡ true },
 }

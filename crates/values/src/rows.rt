@@ -12,9 +12,9 @@ use rules::rows::{Auction, Bilateral, Load, Trade, Zone};
 use text::faults::FieldFault;
 
 // The entry of a zone's line.
-pub fn zone_row(line: &ZoneLine<'_>) -> Result<Entry, FieldFault>
-    requires { line.now.rents.place ≡ 2 }
-    ensures { (s : List ℕ) (at : Spot) → ZoneParts line.now s at → result ≡ zone_row at s }
+pub fn zone_row(line: ZoneLine<'_>) -> Result<Entry, FieldFault>
+    requires { line.rents.place ≡ 2 }
+    ensures { (s : List ℕ) (at : Spot) → ZoneParts line.entry s at → result ≡ zone_row at s }
 {
     let price = line.price.number()?;
     let rents = line.rents.twelve()?;
@@ -22,8 +22,8 @@ pub fn zone_row(line: &ZoneLine<'_>) -> Result<Entry, FieldFault>
 }
 
 // The entry of a resource's line.
-pub fn resource_row(line: &ResourceLine<'_>) -> Result<Entry, FieldFault>
-    ensures { (s : List ℕ) (at : Spot) → ResourceParts line.now s at → result ≡ resource_row at s }
+pub fn resource_row(line: ResourceLine<'_>) -> Result<Entry, FieldFault>
+    ensures { (s : List ℕ) (at : Spot) → ResourceParts line.entry s at → result ≡ resource_row at s }
 {
     let zone = line.zone.number()?;
     let letter = line.class.letter()?;
@@ -39,8 +39,8 @@ pub fn resource_row(line: &ResourceLine<'_>) -> Result<Entry, FieldFault>
 }
 
 // The entry of a load's line.
-pub fn load_row(line: &LoadLine<'_>) -> Result<Entry, FieldFault>
-    ensures { (s : List ℕ) (at : Spot) → LoadParts line.now s at → result ≡ load_row at s }
+pub fn load_row(line: LoadLine<'_>) -> Result<Entry, FieldFault>
+    ensures { (s : List ℕ) (at : Spot) → LoadParts line.entry s at → result ≡ load_row at s }
 {
     let zone = line.zone.number()?;
     let obligation = line.obligation.signed()?;
@@ -49,8 +49,8 @@ pub fn load_row(line: &LoadLine<'_>) -> Result<Entry, FieldFault>
 }
 
 // The entry of a bilateral's line.
-pub fn bilateral_row(line: &BilateralLine<'_>) -> Result<Entry, FieldFault>
-    ensures { (s : List ℕ) (at : Spot) → BilateralParts line.now s at → result ≡ bilateral_row at s }
+pub fn bilateral_row(line: BilateralLine<'_>) -> Result<Entry, FieldFault>
+    ensures { (s : List ℕ) (at : Spot) → BilateralParts line.entry s at → result ≡ bilateral_row at s }
 {
     line.letter.fixed(b'B')?;
     let shedder = line.shedder.number()?;
@@ -71,8 +71,8 @@ pub fn bilateral_row(line: &BilateralLine<'_>) -> Result<Entry, FieldFault>
 }
 
 // The entry of an auction's line.
-pub fn auction_row(line: &AuctionLine<'_>) -> Result<Entry, FieldFault>
-    ensures { (s : List ℕ) (at : Spot) → AuctionParts line.now s at → result ≡ auction_row at s }
+pub fn auction_row(line: AuctionLine<'_>) -> Result<Entry, FieldFault>
+    ensures { (s : List ℕ) (at : Spot) → AuctionParts line.entry s at → result ≡ auction_row at s }
 {
     line.letter.fixed(b'A')?;
     let resource = line.resource.number()?;
@@ -91,8 +91,8 @@ pub fn auction_row(line: &AuctionLine<'_>) -> Result<Entry, FieldFault>
 }
 
 // The year and the peak of a line that opens the book.
-pub fn opening_row(line: &OpeningLine<'_>) -> Result<(u64, u64), FieldFault>
-    ensures { (s : List ℕ) (at : Spot) → OpeningParts line.now s at → result ≡ opening_row at s }
+pub fn opening_row(line: OpeningLine<'_>) -> Result<(u64, u64), FieldFault>
+    ensures { (s : List ℕ) (at : Spot) → OpeningParts line.entry s at → result ≡ opening_row at s }
 {
     line.letter.fixed(b'Y')?;
     let year = line.year.number()?;
@@ -102,8 +102,8 @@ pub fn opening_row(line: &OpeningLine<'_>) -> Result<(u64, u64), FieldFault>
 }
 
 // The count of a line whose letter is `c`.
-pub fn count_row(c: u8, line: &CountLine<'_>) -> Result<u64, FieldFault>
-    ensures { (s : List ℕ) (at : Spot) → CountParts line.now s at → result ≡ count_row c at s }
+pub fn count_row(c: u8, line: CountLine<'_>) -> Result<u64, FieldFault>
+    ensures { (s : List ℕ) (at : Spot) → CountParts line.entry s at → result ≡ count_row c at s }
 {
     line.letter.fixed(c)?;
     let count = line.count.number()?;

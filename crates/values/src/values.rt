@@ -31,7 +31,7 @@ pub fn entry(line: &Line<'_>) -> Result<Entry, FieldFault>
     requires { RentsSecond line.now }
     ensures { (s : List ℕ) (at : Spot) → Parts line.now s at → result ≡ entry_of line.now at s }
 {
-    match line {
+    match *line {
         Line::Zone(zone) => zone_row(zone),
         Line::Resource(resource) => resource_row(resource),
         Line::Load(load) => load_row(load),
@@ -45,7 +45,7 @@ pub fn entry(line: &Line<'_>) -> Result<Entry, FieldFault>
 pub fn opening(line: &Line<'_>) -> Result<(u64, u64), FieldFault>
     ensures { (s : List ℕ) (at : Spot) → Parts line.now s at → result ≡ opening_of line.now at s }
 {
-    let Line::Opening(opening) = line else {
+    let Line::Opening(opening) = *line else {
         return Err(other(line));
     };
     opening_row(opening)
@@ -55,7 +55,7 @@ pub fn opening(line: &Line<'_>) -> Result<(u64, u64), FieldFault>
 pub fn count(line: &Line<'_>, c: u8) -> Result<u64, FieldFault>
     ensures { (s : List ℕ) (at : Spot) → Parts line.now s at → result ≡ count_of c line.now at s }
 {
-    let Line::Count(count) = line else {
+    let Line::Count(count) = *line else {
         return Err(other(line));
     };
     count_row(c, count)

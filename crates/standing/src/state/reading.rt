@@ -1,5 +1,5 @@
 // The entries, by their numbers and in their order.
-ghost use Rattle.std.specs.Prelude.{◌≡◌, ◌≤◌, true, length, IfOk, OnOk};
+ghost use Rattle.std.specs.Prelude.{◌≡◌, ◌≤◌, true, length, IfOk, OnOk, vec_len};
 ghost use Rattle.rules.specs.Rows.{numbered};
 ghost use Rattle.rules.specs.Tests.{resource_test};
 ghost use Rattle.rules.specs.Within.{within};
@@ -13,7 +13,7 @@ impl Standing {
     // The resource of that number, counted from 1.
     pub fn resource(&self, number: u64) -> Result<Resource, Refusal>
         ensures same { result ≡ resource_test (entries_of self.now) number }
-        ensures stands { OnOk result ((1 ≤ number) × (number ≤ length self.now.resources)) }
+        ensures stands { OnOk result ((1 ≤ number) × (number ≤ vec_len self.now.resources.entries)) }
         ensures limits { IfOk result (λ x. within x.row ≡ true) }
     {
         self.resources

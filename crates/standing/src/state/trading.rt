@@ -1,5 +1,5 @@
 // Trades, which change positions.
-ghost use Rattle.std.specs.Prelude.{◌≡◌, ◌+◌, ◌<◌, ◌≤◌, true, length, IfOk};
+ghost use Rattle.std.specs.Prelude.{◌≡◌, ◌+◌, ◌<◌, ◌≤◌, true, IfOk, vec_len};
 ghost use Rattle.standing.specs.View.{entries_of};
 ghost use Rattle.rules.specs.Within.{within};
 ghost use Rattle.rules.specs.Entries.{book_auction, book_bilateral};
@@ -31,8 +31,8 @@ fn test_months(month: u64, first: u64, last: u64) -> Result<(), Refusal>
 impl Standing {
     // Books the trade after the others, and answers its number.
     fn book(&mut self, trade: Trade) -> u64
-        requires { length self.old.trades < 128 }
-        ensures number { result ≡ length self.old.trades + 1 }
+        requires { vec_len self.old.trades.entries < 128 }
+        ensures number { result ≡ vec_len self.old.trades.entries + 1 }
         ensures booked { entries_of self.new ≡ more_trade (entries_of self.old) (entries_of self.old).resources trade }
     {
         self.trades.push(trade)
